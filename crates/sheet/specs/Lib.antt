@@ -1,0 +1,4 @@
+pub mod Limits
+pub mod Draft
+pub mod Causes
+pub mod Judged
