@@ -35,6 +35,10 @@ pub outside-none : (i : ℕ) (ls : List (ℕ × ℕ)) (fs : List ℕ) → length
 unfolding lowestOutside
 outside-none i ls fs h = rw (drop-all i ls h)
 
+-- the table of the code and the figures in their order are those of the rule
+pub table-looked-at : (ls : List (ℕ × ℕ)) (fs : List ℕ) (d : Draft) (o : Option ℕ) → ls ≡ limits → fs ≡ figuresOf d → o ≡ lowestOutside 1 ls fs → o ≡ lowestOutside 1 limits (figuresOf d)
+table-looked-at ls fs d o el ef e = e ∙ ap (λ l. lowestOutside 1 l fs) el ∙ ap (lowestOutside 1 limits) ef
+
 -- each figure lies within its limits, and Q holds
 abbrev WithinThen : List (ℕ × ℕ) → List ℕ → Type 0 → Type 0
 WithinThen [] fs Q = Q

@@ -36,10 +36,6 @@ sum-small q (pos n) h l = omega arith
 sum-small q (negsuc n) h l =
     let s = small 8796093022208 (pos q +ℤ negsuc n) (omega (arith, ints)) (omega (arith, ints)) in omega arith
 
--- what the three steps of the code come to
-room-is : (a b : ℤ) (critical occupancy : ℕ) → a ≡ pos critical → b ≡ pos occupancy → critical < 2 ^ 32 → occupancy < 2 ^ 32 → word (word a -ℤ word b) ≡ pos critical -ℤ pos occupancy
-room-is a b critical occupancy ea eb ha hb = omega (arith, ints)
-
 room-small : (critical occupancy : ℕ) → critical < 2 ^ 32 → occupancy < 2 ^ 32 → mag (pos critical -ℤ pos occupancy) < 2 ^ 33
 room-small critical occupancy ha hb =
     let s = small 4294967296 (pos critical -ℤ pos occupancy) (omega (arith, ints)) (omega (arith, ints)) in omega arith
@@ -47,30 +43,44 @@ room-small critical occupancy ha hb =
 word-pos : (a : ℤ) (n : ℕ) → a ≡ pos n → n < 2 ^ 32 → word a ≡ pos n
 word-pos a n e h = ap word e ∙ word-is (pos n) (omega arith)
 
-gained : (g a b : ℤ) (gain critical occupancy : ℕ) → g ≡ pos gain → a ≡ pos critical → b ≡ pos occupancy → gain ≤ 200 → critical < 2 ^ 32 → occupancy < 2 ^ 32 → word g *ℤ word (word a -ℤ word b) ≡ pos gain *ℤ (pos critical -ℤ pos occupancy)
-gained g a b gain critical occupancy eg ea eb hg hc ho =
-    ap (λ x. x *ℤ word (word a -ℤ word b)) (word-pos g gain eg (omega arith)) ∙ ap (λ x. pos gain *ℤ x) (room-is a b critical occupancy ea eb hc ho)
+-- a flow f, a gain g and the room below the critical occupancy, as the code has them
+pub record Moving (f g room : ℤ) (flow gain critical occupancy : ℕ) : Type 0 where
+  pub flow-is : f ≡ pos flow
+  pub gain-is : g ≡ pos gain
+  pub room-is : room ≡ pos critical -ℤ pos occupancy
+  pub gain-most : gain ≤ 200
+  pub flow-fits : flow < 2 ^ 32
+  pub critical-fits : critical < 2 ^ 32
+  pub occupancy-fits : occupancy < 2 ^ 32
 
-pub product-fits : (g a b : ℤ) (gain critical occupancy : ℕ) → g ≡ pos gain → a ≡ pos critical → b ≡ pos occupancy → gain ≤ 200 → critical < 2 ^ 32 → occupancy < 2 ^ 32 → SFits w64 (word g *ℤ word (word a -ℤ word b))
-product-fits g a b gain critical occupancy eg ea eb hg hc ho =
-    let p = product-small gain (pos critical -ℤ pos occupancy) hg (room-small critical occupancy hc ho) in
-    let q : mag (pos gain *ℤ (pos critical -ℤ pos occupancy)) < 2 ^ 63 = omega arith in
-    record { sfits = subst (λ (z : ℤ). mag z < 2 ^ 63) (sym (gained g a b gain critical occupancy eg ea eb hg hc ho)) q }
+module _ (f g room : ℤ) (flow gain critical occupancy : ℕ) (m : Moving f g room flow gain critical occupancy) where
+  gained-small : mag (pos gain *ℤ (pos critical -ℤ pos occupancy)) < 2 ^ 42
+  gained-small = product-small gain (pos critical -ℤ pos occupancy) (m .gain-most) (room-small critical occupancy (m .critical-fits) (m .occupancy-fits))
 
-moved : (f g a b : ℤ) (flow gain critical occupancy : ℕ) → f ≡ pos flow → g ≡ pos gain → a ≡ pos critical → b ≡ pos occupancy → gain ≤ 200 → flow < 2 ^ 32 → critical < 2 ^ 32 → occupancy < 2 ^ 32 → word f +ℤ word (word g *ℤ word (word a -ℤ word b)) ≡ movedFlow gain critical flow occupancy
-moved f g a b flow gain critical occupancy ef eg ea eb hg hf hc ho =
-    let p = product-small gain (pos critical -ℤ pos occupancy) hg (room-small critical occupancy hc ho) in
-    ap (λ x. x +ℤ word (word g *ℤ word (word a -ℤ word b))) (word-pos f flow ef hf) ∙
-    ap (λ x. pos flow +ℤ x) (ap word (gained g a b gain critical occupancy eg ea eb hg hc ho) ∙ word-is (pos gain *ℤ (pos critical -ℤ pos occupancy)) (omega arith))
+  gained : word g *ℤ word room ≡ pos gain *ℤ (pos critical -ℤ pos occupancy)
+  gained =
+      let l : gain ≤ 200 = m .gain-most in
+      let h = room-small critical occupancy (m .critical-fits) (m .occupancy-fits) in
+      ap (λ x. x *ℤ word room) (word-pos g gain (m .gain-is) (omega arith)) ∙
+      ap (λ x. pos gain *ℤ x) (ap word (m .room-is) ∙ word-is (pos critical -ℤ pos occupancy) (omega arith))
 
-moved-small : (flow gain critical occupancy : ℕ) → gain ≤ 200 → flow < 2 ^ 32 → critical < 2 ^ 32 → occupancy < 2 ^ 32 → mag (movedFlow gain critical flow occupancy) < 2 ^ 63
-moved-small flow gain critical occupancy hg hf hc ho =
-    sum-small flow (pos gain *ℤ (pos critical -ℤ pos occupancy)) hf (product-small gain (pos critical -ℤ pos occupancy) hg (room-small critical occupancy hc ho))
+  pub product-fits : SFits w64 (word g *ℤ word room)
+  product-fits =
+      let h = gained-small in
+      let q : mag (pos gain *ℤ (pos critical -ℤ pos occupancy)) < 2 ^ 63 = omega arith in
+      record { sfits = subst (λ (z : ℤ). mag z < 2 ^ 63) (sym gained) q }
 
-pub moved-fits : (f g a b : ℤ) (flow gain critical occupancy : ℕ) → f ≡ pos flow → g ≡ pos gain → a ≡ pos critical → b ≡ pos occupancy → gain ≤ 200 → flow < 2 ^ 32 → critical < 2 ^ 32 → occupancy < 2 ^ 32 → SFits w64 (word f +ℤ word (word g *ℤ word (word a -ℤ word b)))
-moved-fits f g a b flow gain critical occupancy ef eg ea eb hg hf hc ho =
-    record { sfits = subst (λ (z : ℤ). mag z < 2 ^ 63) (sym (moved f g a b flow gain critical occupancy ef eg ea eb hg hf hc ho)) (moved-small flow gain critical occupancy hg hf hc ho) }
+  moved : word f +ℤ word (word g *ℤ word room) ≡ movedFlow gain critical flow occupancy
+  moved =
+      let h = gained-small in
+      ap (λ x. x +ℤ word (word g *ℤ word room)) (word-pos f flow (m .flow-is) (m .flow-fits)) ∙
+      ap (λ x. pos flow +ℤ x) (ap word gained ∙ word-is (pos gain *ℤ (pos critical -ℤ pos occupancy)) (omega arith))
 
-pub moved-is : (f g a b : ℤ) (flow gain critical occupancy : ℕ) → f ≡ pos flow → g ≡ pos gain → a ≡ pos critical → b ≡ pos occupancy → gain ≤ 200 → flow < 2 ^ 32 → critical < 2 ^ 32 → occupancy < 2 ^ 32 → word (word f +ℤ word (word g *ℤ word (word a -ℤ word b))) ≡ movedFlow gain critical flow occupancy
-moved-is f g a b flow gain critical occupancy ef eg ea eb hg hf hc ho =
-    ap word (moved f g a b flow gain critical occupancy ef eg ea eb hg hf hc ho) ∙ word-is (movedFlow gain critical flow occupancy) (moved-small flow gain critical occupancy hg hf hc ho)
+  moved-small : mag (movedFlow gain critical flow occupancy) < 2 ^ 63
+  moved-small = sum-small flow (pos gain *ℤ (pos critical -ℤ pos occupancy)) (m .flow-fits) gained-small
+
+  pub moved-fits : SFits w64 (word f +ℤ word (word g *ℤ word room))
+  moved-fits = record { sfits = subst (λ (z : ℤ). mag z < 2 ^ 63) (sym moved) moved-small }
+
+  pub moved-is : word (word f +ℤ word (word g *ℤ word room)) ≡ movedFlow gain critical flow occupancy
+  moved-is = ap word moved ∙ word-is (movedFlow gain critical flow occupancy) moved-small

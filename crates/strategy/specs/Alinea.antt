@@ -10,11 +10,14 @@ use Rattle.strategy.specs.Drawn.{drawn}
 abbrev pub movedFlow : (gain critical q occupancy : ℕ) → ℤ
 movedFlow gain critical q occupancy = pos q +ℤ pos gain *ℤ (pos critical -ℤ pos occupancy)
 
--- the flow q in tenths after a close: moved, and drawn into the limits, which are in whole vehicles; it stays without a measure
+-- the flow after a period with this occupancy: moved, and drawn into the limits, which are in whole vehicles
+abbrev pub measuredFlow : (gain critical lowest highest q occupancy : ℕ) → ℕ
+measuredFlow gain critical lowest highest q occupancy = drawn (10 * lowest) (10 * highest) (movedFlow gain critical q occupancy)
+
+-- the flow after a close: it stays without a measure
 abbrev pub flowAfter : (gain critical lowest highest q : ℕ) → Option Measure → ℕ
 flowAfter gain critical lowest highest q None = q
-flowAfter gain critical lowest highest q (Some m) =
-    drawn (10 * lowest) (10 * highest) (movedFlow gain critical q (m .«occupancy_permille»))
+flowAfter gain critical lowest highest q (Some m) = measuredFlow gain critical lowest highest q (m .«occupancy_permille»)
 
 -- a / b, rounded up
 abbrev pub roundedUp : ℕ → ℕ → ℕ

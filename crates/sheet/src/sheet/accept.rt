@@ -1,8 +1,8 @@
 // Accepting a draft.
 ghost use mathlib.Core.Path.{_≡_};
-ghost use Prim.Native.Nat.{_<_};
+ghost use Prim.Native.Nat.{_+_, _<_};
 ghost use lib.ListN.{length};
-ghost use Rattle.sheet.specs.Limits.{isOutside, lowestOutside};
+ghost use Rattle.sheet.specs.Limits.{limits, isOutside, lowestOutside};
 ghost use Rattle.sheet.specs.Causes.{causeOf, causeOfPairs};
 ghost use Rattle.sheet.specs.Judged.{Judged};
 use crate::draft::Cause;
@@ -10,7 +10,7 @@ use crate::draft::Draft;
 use crate::draft::RefusedDraft;
 use crate::sheet::Sheet;
 
-// Each figure's lowest and highest value, in the order of their numbers.
+// Each figure's lowest and highest value, in the order of their numbers: the one table of the code.
 const LIMITS: [(u32, u32); 22] = [
     (1, 9_999),
     (30, 300),
@@ -36,6 +36,21 @@ const LIMITS: [(u32, u32); 22] = [
     (30, 900),
 ];
 
+// The table of limits.
+fn limits_table() -> [(u32, u32); 22]
+    ensures { λ r. ⌜ r ≡ limits ⌝ }
+{
+    LIMITS
+}
+
+// The number of the figure at a place of the list.
+fn number_at(place: usize) -> u32
+    requires { ⌜ place < 1000 ⌝ }
+    ensures { λ r. ⌜ r ≡ place + 1 ⌝ }
+{
+    place as u32 + 1
+}
+
 // Whether a figure is below or above its limits.
 fn is_outside(limits: (u32, u32), figure: u32) -> bool
     ensures { λ r. ⌜ r ≡ isOutside limits figure ⌝ }
@@ -50,7 +65,7 @@ fn lowest_outside(figures: &[u32], limits: &[(u32, u32)]) -> Option<u32>
 {
     for i in 0..limits.len() {
         if is_outside(limits[i], figures[i]) {
-            return Some(i as u32 + 1);
+            return Some(number_at(i));
         }
     }
     None
@@ -73,7 +88,7 @@ fn cause_of_pairs(draft: &Draft) -> Option<Cause>
 fn cause_of(draft: &Draft) -> Option<Cause>
     ensures { λ r. ⌜ r ≡ causeOf (now (draft .entry)) ⌝ }
 {
-    match lowest_outside(&draft.figures(), &LIMITS) {
+    match lowest_outside(&draft.figures(), &limits_table()) {
         Some(figure) => Some(Cause::OutsideLimits(figure)),
         None => cause_of_pairs(draft),
     }

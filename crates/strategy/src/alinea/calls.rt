@@ -1,7 +1,8 @@
 // Making ALINEA, and ALINEA as a strategy.
 ghost use mathlib.Core.Path.{_≡_};
 ghost use Prim.Native.Nat.{_≤_};
-ghost use Rattle.strategy.specs.Alinea.{movedFlow};
+ghost use lib.IntN.{pos, _-ℤ_};
+ghost use Rattle.strategy.specs.Alinea.{movedFlow, measuredFlow};
 ghost use Rattle.strategy.specs.Meanings.{freshAlinea, alineaMeaning};
 use crate::alinea::Alinea;
 use crate::drawn::draw_into;
@@ -25,13 +26,34 @@ impl Alinea {
     }
 }
 
+// How far an occupancy lies below the critical one.
+fn below_critical(critical: u32, occupancy: u32) -> i64
+    ensures { λ r. ⌜ r ≡ pos critical -ℤ pos occupancy ⌝ }
+{
+    i64::from(critical) - i64::from(occupancy)
+}
+
 // The flow in tenths, moved by gain × (critical occupancy − occupancy) and not yet drawn into its limits.
 fn moved_flow(flow_tenths: u32, gain: u32, critical: u32, occupancy: u32) -> i64
     requires { ⌜ gain ≤ 200 ⌝ }
     ensures { λ r. ⌜ r ≡ movedFlow gain critical «flow_tenths» occupancy ⌝ }
 {
-    let room = i64::from(critical) - i64::from(occupancy);
-    i64::from(flow_tenths) + i64::from(gain) * room
+    i64::from(flow_tenths) + i64::from(gain) * below_critical(critical, occupancy)
+}
+
+impl Alinea {
+    // The flow in tenths after a period with this occupancy.
+    fn flow_after(&self, occupancy: u32) -> u32
+        ensures { λ r. ⌜ r ≡ measuredFlow (now (self .entry) .gain) (now (self .entry) .«critical_occupancy») (now (self .entry) .«lowest_flow») (now (self .entry) .«highest_flow») (now (self .entry) .«flow_tenths») occupancy ⌝ }
+    {
+        let moved = moved_flow(
+            self.flow_tenths,
+            self.gain,
+            self.critical_occupancy,
+            occupancy,
+        );
+        draw_into(10 * self.lowest_flow, 10 * self.highest_flow, moved)
+    }
 }
 
 pub impl Strategy for Alinea as AlineaStrategy {
@@ -43,13 +65,7 @@ pub impl Strategy for Alinea as AlineaStrategy {
 
     fn tell(&mut self, _minute: u32, measure: Option<Measure>) {
         if let Some(m) = measure {
-            let moved = moved_flow(
-                self.flow_tenths,
-                self.gain,
-                self.critical_occupancy,
-                m.occupancy_permille,
-            );
-            self.flow_tenths = draw_into(10 * self.lowest_flow, 10 * self.highest_flow, moved);
+            self.flow_tenths = self.flow_after(m.occupancy_permille);
         }
     }
 

@@ -4,7 +4,7 @@ use Rattle.strategy.proofs.hourly.calls.draw_cycles.Needs as need
 
 pub loop-cycle-again : need.loop-cycle-again
 loop-cycle-again c =
-    cycle-drawn (c .args .cycles) (c .loop-cycle .cycle-items) (c .loop-cycle .cycle-index) (c .draw-into .result) (c .from .result) (search needs) (search needs) (search needs) (c .loop-cycle .inv) (c .from .ensures) (c .from .ok) (c .draw-into .ensures)
+    cycle-drawn (c .args .cycles) (c .loop-cycle .cycle-items) (c .loop-cycle .cycle-index) (c .draw-cycle .result) (search needs) (search needs) (search needs) (c .loop-cycle .inv) (c .draw-cycle .ensures)
 
 pub returns : need.returns
 returns c =

@@ -7,7 +7,7 @@ pub returns-in-Some : need.returns-in-Some
 returns-in-Some c =
     let a = c .args .self .now in
     alinea-same
-    (flow-told (a .gain) (a .«critical_occupancy») (a .«lowest_flow») (a .«highest_flow») (a .«flow_tenths») (c .draw-into-self .result) (c .moved-flow-moved .result) (c .args .measure) (c .in-Some .m) (c .in-Some .is) (c .moved-flow-moved .ensures) (c .moved-flow-moved .ok) (c .draw-into-self .ensures))
+    (flow-told (a .gain) (a .«critical_occupancy») (a .«lowest_flow») (a .«highest_flow») (a .«flow_tenths») (c .flow-after-self .result) (c .args .measure) (c .in-Some .m) (c .in-Some .is) (c .flow-after-self .ensures))
     refl refl refl refl
 
 pub returns-in-rest : need.returns-in-rest

@@ -3,4 +3,4 @@ use Rattle.strategy.proofs.Same.{hourly-same}
 use Rattle.strategy.proofs.hourly.calls.HourlyPlanStrategy.tell.Needs as need
 
 pub returns : need.returns
-returns c = hourly-same refl refl
+returns c = hourly-same refl (c .hour-of-self .ensures)
