@@ -1,0 +1,2 @@
+// The rows of a trial's log, and what each writes.
+pub mod row;

@@ -1,0 +1,5 @@
+pub mod Digits
+pub mod Cuts
+pub mod Reading
+pub mod Padding
+pub mod Whole

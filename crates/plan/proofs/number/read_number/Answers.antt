@@ -1,0 +1,27 @@
+use mathlib.Core.Path.{_≡_, sym, _∙_}
+use native.Mathlib.Omega.{arith}
+use borrow.Author.Needs.{needs}
+use Rattle.plan.proofs.Digits.{none-written, starts, no-digit, one-more, one-too-many, ends}
+use Rattle.plan.proofs.number.read_number.Needs as need
+
+pub returns-then-is-empty : need.returns-then-is-empty
+returns-then-is-empty c = sym (none-written (c .args .text .now) (search needs))
+
+pub loop-byte-holds : need.loop-byte-holds
+loop-byte-holds c = (starts (c .args .text .now) (search needs), omega arith)
+
+pub returns-then-not-is-digit : need.returns-then-not-is-digit
+returns-then-not-is-digit c =
+    sym (c .loop-byte .inv .0 ∙ no-digit (c .loop-byte .value) (c .loop-byte .byte-index) (c .args .text .now) (omega arith) (c .if-not-is-digit .ensures tt))
+
+pub returns-then-value-gt4294967295 : need.returns-then-value-gt4294967295
+returns-then-value-gt4294967295 c =
+    sym (c .loop-byte .inv .0 ∙ one-too-many (c .loop-byte .value) (c .loop-byte .byte-index) (c .args .text .now) (omega arith) (c .if-not-is-digit .ensures tt) (c .if-value-gt4294967295 .taken))
+
+pub loop-byte-again : need.loop-byte-again
+loop-byte-again c =
+    (c .loop-byte .inv .0 ∙ one-more (c .loop-byte .value) (c .loop-byte .byte-index) (c .args .text .now) (omega arith) (c .if-not-is-digit .ensures tt), omega arith)
+
+pub returns : need.returns
+returns c =
+    sym (c .loop-byte .inv .0 ∙ ends (c .loop-byte .value) (c .loop-byte .byte-index) (c .args .text .now) (omega arith) (omega arith))

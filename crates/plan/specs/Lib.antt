@@ -1,0 +1,12 @@
+pub mod Decimal
+pub mod Text
+pub mod Fields
+pub mod Values
+pub mod Words
+pub mod Several
+pub mod Lists
+pub mod Seconds
+pub mod Strategies
+pub mod Kinds
+pub mod Rows
+pub mod Faults
