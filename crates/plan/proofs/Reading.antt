@@ -1,11 +1,11 @@
 -- Values read one after another into a list.
 use mathlib.Core.Path.{_≡_, refl, sym, ap, _∙_}
-use mathlib.Core.Bool.{Bool, true, false}
+use mathlib.Core.Bool.{true, false}
 use mathlib.Core.List.{List, [], _∷_, _++_}
 use Prim.Native.Nat.{ℕ, zero, suc, _+_, _-_, _≤_, _<_}
 use native.Mathlib.Nat.{add-zero, sub-zero, add-assoc}
 use native.Mathlib.Omega.{arith}
-use lib.ListN.{length, take, drop, set, replicate}
+use lib.ListN.{length, take, drop, set}
 use Rattle.std.proofs.shelf.Lists.{append-nil, append-assoc, length-set, take-all, take-more-set, drop-set-lt, drop-drop}
 use Rattle.std.specs.declared.option.Option.{Option}
 use Rattle.std.specs.declared.result.Result.{Result}
@@ -54,46 +54,47 @@ module _ {A : Type 0} (means : List ℕ → Option A) (w : Wanted) where
       ap (λ j. together (valueAt means w n (f ∷ fs)) (atMost means w j (n + 1) fs)) p
 
   -- k values of the fields fs stand at the front of `new`, and the fields gs are left
-  abbrev pub Reading : ℕ → List (List ℕ) → List A → List A → ℕ → List (List ℕ) → Type 0
-  Reading n fs old new k gs =
-      (k ≤ length old) × (length new ≡ length old) ×
-      (atMost means w (length old) n fs ≡ prepend (take k new) (atMost means w (length old - k) (n + k) gs)) ×
-      (drop k new ≡ drop k old)
+  pub record Reading (n : ℕ) (fs : List (List ℕ)) (old new : List A) (k : ℕ) (gs : List (List ℕ)) : Type 0 where
+    pub within : k ≤ length old
+    pub long : length new ≡ length old
+    pub told : atMost means w (length old) n fs ≡ prepend (take k new) (atMost means w (length old - k) (n + k) gs)
+    pub same : drop k new ≡ drop k old
 
   pub reading-none : (n : ℕ) (fs : List (List ℕ)) (old : List A) → Reading n fs old old 0 fs
-  reading-none n fs old =
-      (omega arith, refl, simp (sub-zero, add-zero) (prepend-none (atMost means w (length old) n fs)), refl)
+  reading-none n fs old = record {
+    within = omega arith;
+    long = refl;
+    told = simp (sub-zero, add-zero) (prepend-none (atMost means w (length old) n fs));
+    same = refl;
+  }
 
-  pub reading-all : (n : ℕ) (fs : List (List ℕ)) (old new : List A) (k : ℕ) (gs : List (List ℕ)) → Reading n fs old new k gs →
-      isEmpty gs ≡ true → Filled means w n fs old new (Ok k)
-  reading-all n fs old new k gs r e =
-      (r .0, r .2 ∙ ap (prepend (take k new)) (none-more (length old - k) (n + k) gs e) ∙ ap Ok (append-nil (take k new)), r .3)
+  module _ {n : ℕ} {fs : List (List ℕ)} {old new : List A} {k : ℕ} {gs : List (List ℕ)} (r : Reading n fs old new k gs) where
+    pub reading-all : true ≡ isEmpty gs → Filled means w n fs old new (Ok k)
+    reading-all e =
+        (r .within, r .told ∙ ap (prepend (take k new)) (none-more (length old - k) (n + k) gs (sym e)) ∙ ap Ok (append-nil (take k new)), r .same)
 
-  pub reading-surplus : (n : ℕ) (fs : List (List ℕ)) (old new : List A) (k : ℕ) (gs : List (List ℕ)) → Reading n fs old new k gs →
-      isEmpty gs ≡ false → k ≡ length new → Filled means w n fs old new (Err (Surplus (n + k)))
-  reading-surplus n fs old new k gs r e h =
-      r .2 ∙ ap (prepend (take k new)) (no-place (length old - k) (n + k) gs e (omega (arith, r .1)))
+    pub reading-surplus : false ≡ isEmpty gs → k ≡ length new → Filled means w n fs old new (Err (Surplus (n + k)))
+    reading-surplus e h = r .told ∙ ap (prepend (take k new)) (no-place (length old - k) (n + k) gs (sym e) (omega (arith, r .long)))
 
-  pub reading-bad : (n : ℕ) (fs : List (List ℕ)) (old new : List A) (k : ℕ) (gs : List (List ℕ)) (x : RowFault) → Reading n fs old new k gs →
-      isEmpty gs ≡ false → (k ≡ length new → ⊥) → valueAt means w (n + k) gs ≡ Err x → Filled means w n fs old new (Err x)
-  reading-bad n fs old new k gs x r e h v =
-      let bad : atMost means w (length old - k) (n + k) gs ≡ Err x =
-      one-more (length old - k) (n + k) gs e (omega (arith, r .0, r .1)) ∙ simp v in
-      r .2 ∙ ap (prepend (take k new)) bad
+    pub reading-bad : (x : RowFault) → false ≡ isEmpty gs → (k ≡ length new → ⊥) → Err x ≡ valueAt means w (n + k) gs → Filled means w n fs old new (Err x)
+    reading-bad x e h v =
+        let bad : atMost means w (length old - k) (n + k) gs ≡ Err x =
+        one-more (length old - k) (n + k) gs (sym e) (omega (arith, r .within, r .long)) ∙ simp (sym v) in
+        r .told ∙ ap (prepend (take k new)) bad
 
-  pub reading-more : (n : ℕ) (fs : List (List ℕ)) (old new : List A) (k : ℕ) (gs hs : List (List ℕ)) (x : A) → Reading n fs old new k gs →
-      isEmpty gs ≡ false → (k ≡ length new → ⊥) → valueAt means w (n + k) gs ≡ Ok x → hs ≡ behind gs → Reading n fs old (set new k x) (k + 1) hs
-  reading-more n fs old new k gs hs x r e h v b =
-      let lt : k < length new = omega (arith, r .0, r .1) in
-      let room : length old - k - 1 ≡ length old - (k + 1) = omega arith in
-      let read : atMost means w (length old - k) (n + k) gs ≡ together (Ok x) (atMost means w (length old - (k + 1)) (n + (k + 1)) hs) =
-      one-more (length old - k) (n + k) gs e (omega (arith, r .0, r .1)) ∙ simp (v, room, add-assoc, b) in (
-        omega (arith, r .1),
-        length-set new k x ∙ r .1,
-        r .2 ∙ ap (prepend (take k new)) read ∙ prepend-more (take k new) x _
-            ∙ ap (λ ys. prepend ys (atMost means w (length old - (k + 1)) (n + (k + 1)) hs)) (sym (take-more-set new k x lt)),
-        drop-set-lt (k + 1) new k x (omega arith) ∙ sym (drop-drop 1 k new) ∙ ap (drop 1) (r .3) ∙ drop-drop 1 k old,
-      )
+    pub reading-more : (hs : List (List ℕ)) (x : A) → false ≡ isEmpty gs → (k ≡ length new → ⊥) → Ok x ≡ valueAt means w (n + k) gs → hs ≡ behind gs →
+        Reading n fs old (set new k x) (k + 1) hs
+    reading-more hs x e h v b =
+        let room : length old - k - 1 ≡ length old - (k + 1) = omega arith in
+        let read : atMost means w (length old - k) (n + k) gs ≡ together (Ok x) (atMost means w (length old - (k + 1)) (n + (k + 1)) hs) =
+        one-more (length old - k) (n + k) gs (sym e) (omega (arith, r .within, r .long)) ∙ simp (sym v, room, add-assoc, b) in
+        record {
+          within = omega (arith, r .within, r .long);
+          long = length-set new k x ∙ r .long;
+          told = r .told ∙ ap (prepend (take k new)) read ∙ prepend-more (take k new) x (atMost means w (length old - (k + 1)) (n + (k + 1)) hs)
+              ∙ ap (λ ys. prepend ys (atMost means w (length old - (k + 1)) (n + (k + 1)) hs)) (sym (take-more-set new k x (omega (arith, r .within, r .long))));
+          same = drop-set-lt (k + 1) new k x (omega arith) ∙ sym (drop-drop 1 k new) ∙ ap (drop 1) (r .same) ∙ drop-drop 1 k old;
+        }
 
   -- where the values reach to the end, they are all that there should be
   pub filled-up : (n : ℕ) (fs : List (List ℕ)) (old new : List A) (k : ℕ) → Filled means w n fs old new (Ok k) → length new ≡ length old →

@@ -23,6 +23,7 @@ fn wanted_text(wanted: Wanted) -> &'static str
     }
 }
 
+// Names what should have stood in a field.
 pub impl fmt::Display for Wanted as WantedDisplay {
     ghost shown = { λ w. Some (wantedText w) };
 
@@ -31,6 +32,7 @@ pub impl fmt::Display for Wanted as WantedDisplay {
     }
 }
 
+// Says which field is wrong, and what was expected there.
 pub impl fmt::Display for RowFault as RowFaultDisplay {
     ghost shown = { λ e. Some (faultText e) };
 

@@ -14,7 +14,7 @@ pub struct Fields<'a> {
 
 impl<'a> Fields<'a> {
     // All fields of a text.
-    pub fn of(text: &'a [u8], mark: u8) -> Fields<'a>
+    pub(crate) fn of(text: &'a [u8], mark: u8) -> Fields<'a>
         ensures { λ r. ⌜ fieldsLeft r ≡ fieldsOf mark (now (text .entry)) ⌝ }
     {
         Fields {
@@ -25,14 +25,14 @@ impl<'a> Fields<'a> {
     }
 
     // Is no field left?
-    pub fn is_empty(&self) -> bool
+    pub(crate) fn is_empty(&self) -> bool
         ensures { λ r. ⌜ r ≡ isEmpty (fieldsLeft (now (self .entry))) ⌝ }
     {
         !self.more
     }
 
     // The next field, if one is left.
-    pub fn next(&mut self) -> Option<&'a [u8]>
+    pub(crate) fn next(&mut self) -> Option<&'a [u8]>
         ensures value { λ r. ⌜ mapped now r ≡ firstOf (fieldsLeft (now (self .entry))) ⌝ }
         ensures after { λ r. ⌜ fieldsLeft (now (self .exit)) ≡ behind (fieldsLeft (now (self .entry))) ⌝ }
     {

@@ -2,6 +2,9 @@
 ghost use mathlib.Core.Path.{_≡_};
 ghost use Rattle.plan.specs.Decimal.{isDigit, decimal};
 
+// The largest number that a plan can write.
+const LARGEST: u64 = 4_294_967_295;
+
 // Is this byte a decimal digit?
 fn is_digit(byte: u8) -> bool
     ensures { λ r. ⌜ r ≡ isDigit byte ⌝ }
@@ -22,7 +25,7 @@ pub fn read_number(text: &[u8]) -> Option<u32>
             return None;
         }
         value = value * 10 + (*byte - b'0') as u64;
-        if value > 4_294_967_295 {
+        if value > LARGEST {
             return None;
         }
     }

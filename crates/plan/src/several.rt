@@ -1,5 +1,4 @@
 // Several values of one kind, to the end of a row.
-ghost use mathlib.Core.Path.{_≡_};
 ghost use Prim.Native.Nat.{_+_, _<_, _^_};
 ghost use lib.ListN.{length};
 ghost use Rattle.plan.specs.Fields.{fieldsLeft};

@@ -35,7 +35,7 @@ fn read_base(fields: &mut Fields<'_>, word: BaseWord, first: u32) -> Result<Base
     }
 }
 
-// What stands behind the first `limiter` and the second.
+// What stands behind a second `limiter`, below one of the step `outer`.
 fn read_twice(fields: &mut Fields<'_>, outer: u32) -> Result<StrategyRow, RowFault>
     ensures { λ r. ⌜ r ≡ twiceOf outer (fieldsLeft (now (fields .entry))) ⌝ }
 {

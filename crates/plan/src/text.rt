@@ -1,7 +1,5 @@
 // What a row of a plan is once its ends are cut off.
 ghost use mathlib.Core.Path.{_≡_};
-ghost use Prim.Native.Nat.{_+_, _≤_};
-ghost use lib.ListN.{length, drop};
 ghost use Rattle.plan.specs.Text.{withoutLast, withoutEnd, unpadded, withoutBom, before, rowText, commandText};
 
 // The text without this byte at its end, if it has it there.

@@ -1,4 +1,4 @@
-use mathlib.Core.Path.{_≡_, sym, _∙_}
+use mathlib.Core.Path.{sym, _∙_}
 use native.Mathlib.Omega.{arith}
 use borrow.Author.Needs.{needs}
 use Rattle.plan.proofs.Digits.{none-written, starts, no-digit, one-more, one-too-many, ends}
@@ -14,9 +14,9 @@ pub returns-then-not-is-digit : need.returns-then-not-is-digit
 returns-then-not-is-digit c =
     sym (c .loop-byte .inv .0 ∙ no-digit (c .loop-byte .value) (c .loop-byte .byte-index) (c .args .text .now) (omega arith) (c .if-not-is-digit .ensures tt))
 
-pub returns-then-value-gt4294967295 : need.returns-then-value-gt4294967295
-returns-then-value-gt4294967295 c =
-    sym (c .loop-byte .inv .0 ∙ one-too-many (c .loop-byte .value) (c .loop-byte .byte-index) (c .args .text .now) (omega arith) (c .if-not-is-digit .ensures tt) (c .if-value-gt4294967295 .taken))
+pub returns-then-value-gt-LARGEST : need.returns-then-value-gt-LARGEST
+returns-then-value-gt-LARGEST c =
+    sym (c .loop-byte .inv .0 ∙ one-too-many (c .loop-byte .value) (c .loop-byte .byte-index) (c .args .text .now) (omega arith) (c .if-not-is-digit .ensures tt) (c .if-value-gt-LARGEST .taken))
 
 pub loop-byte-again : need.loop-byte-again
 loop-byte-again c =

@@ -1,8 +1,6 @@
-use mathlib.Core.Bool.{true, false, not}
-use mathlib.Core.Path.{_≡_}
+use mathlib.Core.Bool.{not}
 use native.Mathlib.Omega.{arith}
 use lib.Dec.{eqb}
-use lib.ListN.{getD}
 use borrow.Author.Tests.{eq-eqb, ne-eqb}
 use Rattle.std.proofs.shelf.Sums.{leading-drop-yes, leading-drop-no, leading-drop-all}
 use Rattle.std.proofs.shelf.Tests.{not-from-true, not-from-false}
