@@ -4,6 +4,8 @@ mod ends;
 #[cfg(test)]
 mod faults;
 #[cfg(test)]
+mod lists;
+#[cfg(test)]
 mod periods;
 #[cfg(test)]
 mod rows;
