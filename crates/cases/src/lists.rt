@@ -4,9 +4,6 @@ use crate::rows::repeated;
 use loops::reading::LaneReading;
 use loops::reading::LaneReadingDebug;
 use loops::reading::LaneReadingPartialEq;
-use plan::row::MinuteRange;
-use plan::row::MinuteRangeDebug;
-use plan::row::MinuteRangePartialEq;
 use plan::row::Row;
 use plan::row::RowDebug;
 use plan::row::RowFaultDebug;
@@ -16,6 +13,9 @@ use plan::row::SecondRow;
 use plan::row::Word;
 use plan::row::WordDebug;
 use plan::row::WordPartialEq;
+use sheet::calendar::MinuteRange;
+use sheet::calendar::MinuteRangeDebug;
+use sheet::calendar::MinuteRangePartialEq;
 use std::test::*;
 
 // The second that a row tells of.

@@ -7,7 +7,28 @@ use std::test::*;
 
 // A draft that is accepted, with each pair of figures as far apart as it can be.
 const PLAIN: [u32; 22] = [
-    7, 60, 5, 20, 4, 3, 4, 999, 10, 1, 10, 15, 2, 20, 3, 80, 60, 70, 200, 30, 900, 600,
+    7,
+    60,
+    5,
+    20,
+    4,
+    3,
+    4,
+    999,
+    10,
+    1,
+    10,
+    15,
+    2,
+    20,
+    3,
+    80,
+    60,
+    70,
+    200,
+    30,
+    900,
+    600,
 ];
 
 // PLAIN with another value for one figure.
@@ -72,11 +93,17 @@ fn each_limit() -> Result<(), Fail> {
         check_eq(told(refusal_of(plain_with(figure, lowest))?), at_lowest)?;
         check_eq(told(refusal_of(plain_with(figure, highest))?), at_highest)?;
         let outside = (1, figure);
-        check_eq(told(refusal_of(plain_with(figure, highest.saturating_add(1)))?), outside)?;
+        check_eq(
+            told(refusal_of(plain_with(figure, highest.saturating_add(1)))?),
+            outside,
+        )?;
         if lowest > 0 {
             check_eq(told(refusal_of(plain_with(figure, lowest - 1))?), outside)?;
         }
-        check_eq(told(refusal_of(plain_with(figure, 4_294_967_295))?), outside)?;
+        check_eq(
+            told(refusal_of(plain_with(figure, 4_294_967_295))?),
+            outside,
+        )?;
     }
     Ok(())
 }

@@ -16,17 +16,43 @@ use strategy::strategy::Strategy;
 // Gain 70, critical occupancy 200, lowest flow 30, highest 900, first 600.
 fn sheet() -> Result<Sheet, RefusedDraft> {
     Draft::new([
-        7, 60, 5, 20, 4, 3, 4, 999, 10, 1, 10, 15, 2, 20, 3, 80, 60, 70, 200, 30, 900, 600,
-    ])
-        .accept()
+        7,
+        60,
+        5,
+        20,
+        4,
+        3,
+        4,
+        999,
+        10,
+        1,
+        10,
+        15,
+        2,
+        20,
+        3,
+        80,
+        60,
+        70,
+        200,
+        30,
+        900,
+        600,
+    ]).accept()
 }
 
 fn occupied(occupancy_permille: u32) -> Option<Measure> {
-    Some(Measure { flow: 1, occupancy_permille })
+    Some(Measure {
+        flow: 1,
+        occupancy_permille,
+    })
 }
 
 // Each close of the table gives the cycle beside it. The minute is that of the table too.
-fn cycles_are<S: Strategy>(strategy: &mut S, table: &[(u32, Option<Measure>, u32)]) -> Result<(), Fail> {
+fn cycles_are<S: Strategy>(
+    strategy: &mut S,
+    table: &[(u32, Option<Measure>, u32)],
+) -> Result<(), Fail> {
     for (minute, measure, cycle) in table {
         strategy.tell(*minute, *measure);
         check_eq(strategy.ask(), *cycle)?;
@@ -143,7 +169,15 @@ fn steps_of_a_limiter_are_drawn_too() -> Result<(), Fail> {
     cycles_are(&mut slow, &[(0, occupied(1_000), 7), (1, None, 8)])?;
     // 31 is drawn to 30
     let mut fast = Limiter::new(Alinea::new(&sheet()?), 31);
-    cycles_are(&mut fast, &[(0, occupied(1_000), 36), (1, None, 66), (2, None, 96), (3, None, 120)])
+    cycles_are(
+        &mut fast,
+        &[
+            (0, occupied(1_000), 36),
+            (1, None, 66),
+            (2, None, 96),
+            (3, None, 120),
+        ],
+    )
 }
 
 #[test]
@@ -152,5 +186,14 @@ fn limiter_over_a_plan() -> Result<(), Fail> {
     cycles[1] = 120;
     let mut limiter = Limiter::new(HourlyPlan::new(cycles), 30);
     check_eq(limiter.ask(), 20)?;
-    cycles_are(&mut limiter, &[(60, None, 50), (61, None, 80), (119, None, 110), (120, None, 80), (180, None, 50)])
+    cycles_are(
+        &mut limiter,
+        &[
+            (60, None, 50),
+            (61, None, 80),
+            (119, None, 110),
+            (120, None, 80),
+            (180, None, 50),
+        ],
+    )
 }

@@ -7,7 +7,7 @@ use Rattle.std.specs.declared.result.Result.the-variants.{Ok}
 use Rattle.loops.specs.declared.reading.LaneReading.{LaneReading}
 use Rattle.plan.specs.declared.row.Calendar.{Calendar}
 use Rattle.plan.specs.declared.row.Lanes.{Lanes}
-use Rattle.plan.specs.declared.row.MinuteRange.{MinuteRange}
+use Rattle.sheet.specs.declared.calendar.MinuteRange.{MinuteRange}
 use Rattle.plan.specs.declared.row.RowFault.{RowFault}
 use Rattle.plan.specs.declared.row.Wanted.the-variants.{Lane, Range}
 use Rattle.plan.specs.Several.{atMost}

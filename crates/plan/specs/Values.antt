@@ -11,7 +11,7 @@ use Rattle.std.specs.declared.result.Result.the-variants.{Ok, Err}
 use Rattle.loops.specs.declared.reading.LaneReading.{LaneReading}
 use Rattle.plan.specs.declared.row.RowFault.{RowFault}
 use Rattle.plan.specs.declared.row.RowFault.the-variants.{Missing, Bad, Surplus}
-use Rattle.plan.specs.declared.row.MinuteRange.{MinuteRange}
+use Rattle.sheet.specs.declared.calendar.MinuteRange.{MinuteRange}
 use Rattle.plan.specs.declared.row.Wanted.{Wanted}
 use Rattle.plan.specs.Decimal.{decimal}
 use Rattle.plan.specs.Fields.{fieldsOf, firstOf, behind, isEmpty}

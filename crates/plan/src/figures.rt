@@ -6,10 +6,10 @@ ghost use Rattle.plan.specs.Values.{numberIn, presenceOf, laneOf, rangeOf};
 ghost use Rattle.plan.specs.declared.row.Wanted.the-variants.{Number, Presence, Lane, Range};
 use crate::fields::Fields;
 use crate::number::read_number;
-use crate::row::MinuteRange;
 use crate::row::Wanted;
 use crate::value::Value;
 use loops::reading::LaneReading;
+use sheet::calendar::MinuteRange;
 
 pub(crate) impl Value for u32 as NumberValue {
     ghost means = { decimal };

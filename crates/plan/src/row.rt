@@ -4,6 +4,9 @@ pub(crate) mod lists;
 use loops::reading::LaneReading;
 use loops::reading::LaneReadingDebug;
 use loops::reading::LaneReadingPartialEq;
+use sheet::calendar::MinuteRange;
+use sheet::calendar::MinuteRangeDebug;
+use sheet::calendar::MinuteRangePartialEq;
 
 // What one row of a plan says.
 #[derive(Clone, Copy, Debug, PartialEq, Eq)]
@@ -82,13 +85,6 @@ pub struct Lanes {
 pub struct Calendar {
     ranges: [MinuteRange; 64],
     count: usize,
-}
-
-// The minutes from one to another.
-#[derive(Clone, Copy, Debug, PartialEq, Eq)]
-pub struct MinuteRange {
-    pub from: u32,
-    pub to: u32,
 }
 
 // The first thing that is wrong with a row. Fields are counted from 1, and the kind of the row is field 1.

@@ -8,6 +8,7 @@ use Rattle.strategy.specs.Alinea.{flowAfter, cycleOfFlow}
 use Rattle.strategy.specs.Limiter.{ownAfter}
 use Rattle.loops.specs.declared.lane.LaneTally.{LaneTally}
 use Rattle.loops.specs.Rules.{isValid, intervalOccupancy}
+use Rattle.orders.specs.Worked.{WorkedLines}
 
 -- a measure with this occupancy, whatever the flow
 abbrev pub occupied : ℕ → ℕ → Measure
@@ -34,3 +35,5 @@ pub record WorkedFigures : Type 0 where
   pub sound-5-of-5 : isValid 80 (interval 5 5) ≡ true
   -- 4,619 busy milliseconds in 20 seconds are an occupancy of 230
   pub occupancy : intervalOccupancy 20 4619 ≡ 230
+  -- the line of a cycle of 120 is read, that of 121 is refused with 7 at place 15, and the off line is read
+  pub lines : WorkedLines

@@ -8,10 +8,10 @@ use crate::figures::LaneValue;
 use crate::figures::RangeValue;
 use crate::row::Calendar;
 use crate::row::Lanes;
-use crate::row::MinuteRange;
 use crate::row::RowFault;
 use crate::several::fill;
 use loops::reading::LaneReading;
+use sheet::calendar::MinuteRange;
 
 impl Lanes {
     // The readings, lane by lane.

@@ -1,4 +1,5 @@
 use mathlib.Core.Path.{refl}
+use Rattle.orders.proofs.WorkedLines.{worked-lines}
 use Rattle.replay.proofs.worked.worked_figures_hold.Needs as need
 
 pub returns : need.returns
@@ -14,4 +15,5 @@ returns c =
       sound-4-of-5 = refl;
       sound-5-of-5 = refl;
       occupancy = refl;
+      lines = worked-lines;
     }

@@ -1,0 +1,5 @@
+pub mod Sets
+pub mod Orders
+pub mod Words
+pub mod Bounds
+pub mod Meanings

@@ -1,0 +1,4 @@
+pub mod Codes
+pub mod Kept
+pub mod Copied
+pub mod Rings

@@ -1,0 +1,5 @@
+pub mod Seen
+pub mod Metering
+pub mod Steps
+pub mod Orders
+pub mod Runs
