@@ -17,12 +17,12 @@ use std::alloc::Global;
 use std::test::*;
 
 // A row of a plan, as it is read, that is not the first.
-pub fn read(raw: &[u8]) -> Result<Row, RowFault> {
+pub(crate) fn read(raw: &[u8]) -> Result<Row, RowFault> {
     read_row(row_text(raw, false))
 }
 
 // A row of this beginning and so many fields that are alike.
-pub fn repeated(
+pub(crate) fn repeated(
     heap: Global,
     head: &[u8],
     field: &[u8],

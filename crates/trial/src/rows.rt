@@ -20,7 +20,7 @@ pub struct Rows<R> {
 
 impl<R: Read + Drop> Rows<R> {
     // The plan from its beginning.
-    pub fn new(heap: Global, from: R) -> Rows<R> {
+    pub(crate) fn new(heap: Global, from: R) -> Rows<R> {
         Rows {
             from: BufReader::new(from),
             raw: Vec::new(heap),
@@ -29,7 +29,7 @@ impl<R: Read + Drop> Rows<R> {
     }
 
     // Reads the next row, if there is one.
-    pub fn next_row(&mut self) -> Result<Option<Row>, Stop> {
+    pub(crate) fn next_row(&mut self) -> Result<Option<Row>, Stop> {
         self.raw.clear();
         if self.from.read_until(b'\n', &mut self.raw)? == 0 {
             return Ok(None);
@@ -43,12 +43,12 @@ impl<R: Read + Drop> Rows<R> {
     }
 
     // Has no row been read?
-    pub fn is_fresh(&self) -> bool {
+    pub(crate) fn is_fresh(&self) -> bool {
         self.number == 0
     }
 
     // The end of the run at this row.
-    pub fn malformed(&self, fault: Fault) -> Stop {
+    pub(crate) fn malformed(&self, fault: Fault) -> Stop {
         Stop::Malformed(self.number, fault)
     }
 }
