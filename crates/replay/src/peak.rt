@@ -84,6 +84,7 @@ impl<S: Strategy> Peak<S> {
     pub fn seconds(&self) -> u32
         ensures { λ r. ⌜ r ≡ now (self .entry) .seconds ⌝ }
     {
-        self.seconds
+        let Peak { seconds, .. } = self;
+        *seconds
     }
 }
