@@ -1,4 +1,6 @@
 // Worked cases of the crates, as tests.
+#![tactic(auto)]
+
 #[cfg(test)]
 mod command_lines;
 #[cfg(test)]

@@ -1,4 +1,6 @@
 // The rows of a trial's log, and what each writes.
+#![tactic(auto)]
+
 pub mod acts;
 pub mod alarm;
 pub mod closing;

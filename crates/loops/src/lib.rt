@@ -1,4 +1,6 @@
 // The loops: what the lane readings of a period come to.
+#![tactic(auto)]
+
 pub mod figures;
 pub mod lane;
 pub mod reading;

@@ -1,4 +1,6 @@
 // The rows of a trial plan: what each of them says.
+#![tactic(auto)]
+
 pub mod fault;
 pub mod fields;
 mod figures;

@@ -1,4 +1,6 @@
 // Records of periods and alarms, and the ring that keeps the newest of them.
+#![tactic(auto)]
+
 pub mod alarm;
 pub mod copying;
 pub mod period;

@@ -1,4 +1,6 @@
 // A plan replayed: what has to come before its acts, and a station that is driven through them.
+#![tactic(auto)]
+
 pub mod act;
 pub mod answered;
 mod once;

@@ -1,4 +1,6 @@
 // Strategies: which reference cycle a station orders, from what its loops measured.
+#![tactic(auto)]
+
 pub mod alinea;
 mod drawn;
 pub mod hourly;

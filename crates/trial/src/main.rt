@@ -1,4 +1,6 @@
 // trial: replays a plan and writes its log.
+#![tactic(auto)]
+
 mod drive;
 mod prepare;
 mod rows;

@@ -6,9 +6,9 @@ use Rattle.sheet.proofs.sheet.accept.cause_of.Goals as goal
 pub returns-in-Some : goal.returns-in-Some
 unfolding cause_of
 returns-in-Some c =
-    ap (λ o. cause_from o (cause_of_pairs c.args.draft.now)) (table_looked_at c.limits-table.result c.figures.result c.args.draft.now _ c.limits-table.ensures c.figures.ensures c.in-Some.ensures)
+    ap (λ o. cause_from o (cause_of_pairs c.args.draft.now)) (table_looked_at c.limits_table.result c.figures.result c.args.draft.now _ c.limits_table.ensures c.figures.ensures c.in-Some.ensures)
 
 pub returns-in-None : goal.returns-in-None
 unfolding cause_of
 returns-in-None c =
-    c.cause-of-pairs.ensures ∙ ap (λ o. cause_from o (cause_of_pairs c.args.draft.now)) (table_looked_at c.limits-table.result c.figures.result c.args.draft.now _ c.limits-table.ensures c.figures.ensures c.in-None.ensures)
+    c.cause_of_pairs.ensures ∙ ap (λ o. cause_from o (cause_of_pairs c.args.draft.now)) (table_looked_at c.limits_table.result c.figures.result c.args.draft.now _ c.limits_table.ensures c.figures.ensures c.in-None.ensures)
