@@ -78,14 +78,18 @@ abbrev pub answered_by : (room : ℕ) → Option Refused → List ℕ → Result
 answered_by room (Some e) reply = Err e
 answered_by room None reply = fitted room reply
 
--- what an order, or a line that is none, answers: its reply, or the first of the causes in the table's order
+-- what a line answers: its reply, or the first of the causes in the table's order
+abbrev pub line_answer_by : {S : Type 0} → Sheet → Model S → (room : ℕ) → Result Order OrderFault → Result (List ℕ) Refused
+line_answer_by f m room (Err e) = Err (refused.Order e)
+line_answer_by f m room (Ok o) = answered_by room (refused_by (is_tripped m.stage) m.command.mode o) (reply_of f m.stage o)
+
+abbrev pub line_answer : {S : Type 0} → Sheet → Model S → (line : List ℕ) (room : ℕ) → Result (List ℕ) Refused
+line_answer f m line room = line_answer_by f m room (order_of line)
+
+-- the same of a station's stage and mode
 abbrev pub answer_to : Sheet → Stage → Mode → (room : ℕ) → Result Order OrderFault → Result (List ℕ) Refused
 answer_to f s mode room (Err e) = Err (refused.Order e)
 answer_to f s mode room (Ok o) = answered_by room (refused_by (is_tripped s) mode o) (reply_of f s o)
-
--- what a line answers
-abbrev pub line_answer : {S : Type 0} → Sheet → Model S → (line : List ℕ) (room : ℕ) → Result (List ℕ) Refused
-line_answer f m line room = answer_to f m.stage m.command.mode room (order_of line)
 
 -- the station with another command
 abbrev pub with_command : {S : Type 0} → Command → Model S → Model S

@@ -1,4 +1,5 @@
 pub mod Setup
+pub mod Peak
 pub mod Replies
 pub mod Acts
 pub mod Played

@@ -7,6 +7,7 @@ use Rattle.strategy.specs.Alinea.{flow_after, cycle_of_flow}
 use Rattle.strategy.specs.Limiter.{own_after}
 use Rattle.loops.specs.declared.lane.LaneTally.{LaneTally}
 use Rattle.loops.specs.Rules.{is_valid, interval_occupancy}
+use Rattle.orders.specs.Worked.{WorkedLines}
 use Rattle.orders.specs.declared.fault.Refusal.{Refusal}
 use Rattle.control.specs.declared.answer.Refused.{Refused}
 use Rattle.control.specs.Fresh.{fresh}
@@ -47,6 +48,8 @@ pub record WorkedFigures : Type 0 where
   pub sound_5_of_5 : is_valid 80 (interval 5 5) ≡ true
   -- 4,619 busy milliseconds in 20 seconds are an occupancy of 230
   pub occupancy : interval_occupancy 20 4619 ≡ 230
+  -- the line of a cycle of 120 is read, that of 121 is refused with 7 at place 15, and the off line is read
+  pub lines : WorkedLines
   -- in central mode a line with a cycle of 120 is taken and sets it, and one of 121 is refused with 7 at place 15
   pub longest_cycle : (f : Sheet) (a : Alinea) (shows : ℕ → ℕ) → line_answer f (in_central_mode f a shows) (codes "PA, AM=F.1, CY=120") 80 ≡ Ok []
   pub cycle_set : (f : Sheet) (a : Alinea) (shows : ℕ → ℕ) → (after_line f (in_central_mode f a shows) (codes "PA, AM=F.1, CY=120") 80).command.centre_cycle ≡ Some 120

@@ -2,13 +2,10 @@
 #![tactic(auto)]
 
 mod drive;
-mod prepare;
 mod rows;
 mod stop;
-mod told;
-mod written;
 
-use crate::prepare::run;
+use crate::drive::run;
 use crate::stop::Stop;
 use std::env;
 use std::fs::File;

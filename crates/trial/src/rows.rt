@@ -3,7 +3,6 @@ use crate::stop::{Fault, Stop};
 use plan::read::read_row;
 use plan::row::Row;
 use plan::text::row_text;
-use replay::setup::Misplaced;
 use std::alloc::Global;
 use std::io::{BufRead, BufReader, Read};
 
@@ -31,16 +30,12 @@ impl<R: Read + Drop> Rows<R> {
         if self.from.read_until(b'\n', &mut self.raw)? == 0 {
             return Ok(None);
         }
+        let first = self.number == 0;
         self.number = self.number.saturating_add(1);
-        match read_row(self.text()) {
+        match read_row(row_text(self.raw.as_slice(), first)) {
             Ok(row) => Ok(Some(row)),
             Err(fault) => Err(self.malformed(Fault::Row(fault))),
         }
-    }
-
-    // The text of the row read last.
-    pub(crate) fn text(&self) -> &[u8] {
-        row_text(self.raw.as_slice(), self.number == 1)
     }
 
     // Has no row been read?
@@ -49,12 +44,7 @@ impl<R: Read + Drop> Rows<R> {
     }
 
     // The end of the run at this row.
-    fn malformed(&self, fault: Fault) -> Stop {
+    pub(crate) fn malformed(&self, fault: Fault) -> Stop {
         Stop::Malformed(self.number, fault)
-    }
-
-    // The end of the run at this row, which stands in a wrong place.
-    pub(crate) fn misplaced(&self, fault: Misplaced) -> Stop {
-        self.malformed(Fault::Misplaced(fault))
     }
 }

@@ -9,6 +9,7 @@ use std::{fmt, io};
 pub enum Fault {
     Row(RowFault),
     Misplaced(Misplaced),
+    NotBuilt,
 }
 
 // Why a run ends early; a row with its number.
@@ -50,6 +51,7 @@ impl fmt::Display for Fault {
         match self {
             Fault::Row(fault) => write!(f, "{fault}"),
             Fault::Misplaced(fault) => write!(f, "{fault}"),
+            Fault::NotBuilt => write!(f, "command lines and breaker resets are not built yet"),
         }
     }
 }

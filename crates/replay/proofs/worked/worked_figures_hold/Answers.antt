@@ -1,5 +1,6 @@
 use Rattle.std.proofs.Common.{refl}
 use Rattle.orders.specs.Lines.{lines}
+use Rattle.orders.proofs.WorkedLines.{worked_lines}
 use Rattle.orders.specs.Tokens.{tokens_from}
 use Rattle.replay.proofs.worked.worked_figures_hold.Goals as goal
 
@@ -17,6 +18,7 @@ returns c =
       sound_4_of_5 = refl;
       sound_5_of_5 = refl;
       occupancy = refl;
+      lines = worked_lines;
       longest_cycle = λ f a shows. refl;
       cycle_set = λ f a shows. refl;
       longer_cycle = λ f a shows. refl;

@@ -1,0 +1,62 @@
+// The rows of command lines and breaker resets.
+ghost use Rattle.std.specs.Prelude.{Some};
+ghost use Rattle.log_rows.specs.Whole.{line_taken_text, line_refused_text, reset_taken_text, reset_refused_text};
+
+use crate::fields::OrNothing;
+use orders::fault::Refusal;
+use std::fmt;
+
+// A command line was taken: the bytes of its reply. Where they are not UTF-8, writing the row gives an error.
+#[derive(Clone, Copy)]
+pub struct LineTaken<'a>(pub &'a [u8]);
+
+// A command line was refused.
+#[derive(Clone, Copy)]
+pub struct LineRefused(pub Refusal);
+
+// A breaker reset was taken.
+#[derive(Clone, Copy)]
+pub struct ResetTaken;
+
+// A breaker reset was refused.
+#[derive(Clone, Copy)]
+pub struct ResetRefused(pub Refusal);
+
+impl fmt::Display for LineTaken<'_> {
+    ghost output = { λ x. Some (line_taken_text x.0.now) };
+
+    fn fmt<W: fmt::Write>(&self, f: &mut fmt::Formatter<W>) -> fmt::Result {
+        match std::str::from_utf8(self.0) {
+            Ok(reply) => write!(f, "line;taken;{reply}"),
+            Err(_) => Err(fmt::Error),
+        }
+    }
+}
+
+impl fmt::Display for LineRefused {
+    ghost output = { λ x. Some (line_refused_text x.0) };
+
+    fn fmt<W: fmt::Write>(&self, f: &mut fmt::Formatter<W>) -> fmt::Result {
+        let number = self.0.number;
+        let value = OrNothing(self.0.value);
+        write!(f, "line;refused;{number};{value}")
+    }
+}
+
+impl fmt::Display for ResetTaken {
+    ghost output = { λ _. Some reset_taken_text };
+
+    fn fmt<W: fmt::Write>(&self, f: &mut fmt::Formatter<W>) -> fmt::Result {
+        write!(f, "reset;taken")
+    }
+}
+
+impl fmt::Display for ResetRefused {
+    ghost output = { λ x. Some (reset_refused_text x.0) };
+
+    fn fmt<W: fmt::Write>(&self, f: &mut fmt::Formatter<W>) -> fmt::Result {
+        let number = self.0.number;
+        let value = OrNothing(self.0.value);
+        write!(f, "reset;refused;{number};{value}")
+    }
+}

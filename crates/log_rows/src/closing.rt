@@ -1,0 +1,23 @@
+// The row that a whole log ends with.
+ghost use Rattle.std.specs.Prelude.{Some};
+ghost use Rattle.log_rows.specs.Whole.{totals_text};
+
+use observer::totals::Totals;
+use std::fmt;
+
+// The closing row of a whole run: its totals.
+#[derive(Clone, Copy)]
+pub struct Closing(pub Totals);
+
+impl fmt::Display for Closing {
+    ghost output = { λ x. Some (totals_text x.0) };
+
+    fn fmt<W: fmt::Write>(&self, f: &mut fmt::Formatter<W>) -> fmt::Result {
+        let seconds = self.0.seconds;
+        let openings = self.0.openings;
+        let longest = self.0.longest;
+        let trips = self.0.trips;
+        let refusals = self.0.refusals;
+        write!(f, "trial;{seconds};{openings};{longest};{trips};{refusals}")
+    }
+}
