@@ -213,7 +213,7 @@ fn do_plan<R: Read + Drop, W: Write>(
 
 // Runs the plan that is read from here. What was written before a fault stays written.
 pub(crate) fn run<R: Read + Drop>(rt: &HostRuntime, from: R, needed: bool) -> Result<(), Stop> {
-    let mut rows = Rows::new(rt.alloc(), from);
+    let mut rows = Rows::new(rt.alloc(), from)?;
     let mut out = BufWriter::new(rt.alloc(), rt.stdout())?;
     let done = do_plan(&mut rows, &mut out, needed);
     out.flush()?;

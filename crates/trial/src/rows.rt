@@ -16,12 +16,12 @@ pub struct Rows<R> {
 
 impl<R: Read + Drop> Rows<R> {
     // The plan from its beginning.
-    pub(crate) fn new(heap: Global, from: R) -> Rows<R> {
-        Rows {
-            from: BufReader::new(from),
+    pub(crate) fn new(heap: Global, from: R) -> Result<Rows<R>, Stop> {
+        Ok(Rows {
+            from: BufReader::new(heap, from)?,
             raw: Vec::new(heap),
             number: 0,
-        }
+        })
     }
 
     // Reads the next row, if there is one.
