@@ -104,7 +104,6 @@ view_of hd t =
       mode = t.command.mode;
       wanted = t.command.wanted;
       cycle = running_cycle t.stage;
-      seconds = t.counts.seconds;
     }
 
 -- what a second is given

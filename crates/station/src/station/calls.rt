@@ -160,7 +160,6 @@ impl<S: Strategy, H: LampHead> Station<S, H> {
             mode: self.command.mode,
             wanted: self.command.wanted,
             cycle: self.stage.running_cycle(),
-            seconds: self.counts.seconds,
         }
     }
 }

@@ -13,8 +13,8 @@ pub struct Field<'a> {
     pub lanes: &'a [LaneReading],
 }
 
-// What an observer may see: the colour that the head means, the phase, the mode, whether metering is wanted, the length of the running reference
-// cycle (0 outside metering), and the second number.
+// What an observer may see: the colour that the head means, the phase, the mode, whether metering is wanted, and the length of the running reference
+// cycle (0 outside metering).
 #[derive(Clone, Copy)]
 pub struct View {
     pub colour: Colour,
@@ -22,5 +22,4 @@ pub struct View {
     pub mode: Mode,
     pub wanted: bool,
     pub cycle: u32,
-    pub seconds: u32,
 }
