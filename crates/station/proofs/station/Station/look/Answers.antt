@@ -15,7 +15,6 @@ returns g c =
         mode = self.command.mode;
         wanted = self.command.wanted;
         cycle = c.running-cycle.ensures i;
-        seconds = self.counts.seconds;
       };
       looked = λ s h l.
           let m = model g.H.LampHead self l.0 in
