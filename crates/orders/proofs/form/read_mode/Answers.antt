@@ -14,20 +14,20 @@ central = form (written "0") (orders Central)
 abbrev local : List Form
 local = form (written "1") (orders Local) ∷ []
 
-pub returns-in-err-digit : goal.returns-in-err-digit
+pub returns-in_err-digit : goal.returns-in_err-digit
 unfolding lines lines_past tokens_from
-returns-in-err-digit c = subst (λ v. Reads v (lines_past "PA, AM=PIL") c.args.tokens.now) (sym (broke _ _ c.from-residual.ensures.1)) (c.in-err-digit.ensures central local refl)
+returns-in_err-digit c = subst (λ v. Reads v (lines_past "PA, AM=PIL") c.args.tokens.now) (sym (broke _ _ c.from_residual.ensures.1)) (c.in_err-digit.ensures central local refl)
 
 pub returns-in-Some : goal.returns-in-Some
 unfolding lines lines_past tokens_from
 returns-in-Some c =
-    let t = c.in-ok-digit.digit in
-    c.in-ok-digit.ensures central local _
-    (chosen (central ∷ local) mode_order after_mode past_mode t c.token-behind.new.self _ (Some c.in-Some.order) _ c.text.ensures c.in-Some.ensures
+    let t = c.in_ok-digit.digit in
+    c.in_ok-digit.ensures central local _
+    (chosen (central ∷ local) mode_order after_mode past_mode t c.token_behind.new.self _ (Some c.in-Some.order) _ c.text.ensures c.in-Some.ensures
     (c.finish.ensures ∙ ends_here (part_of t) (orders c.in-Some.order) _ _))
 
 pub returns-in-None : goal.returns-in-None
 unfolding lines lines_past tokens_from
 returns-in-None c =
-    c.in-ok-digit.ensures central local _
-    (chosen (central ∷ local) mode_order after_mode past_mode c.in-ok-digit.digit c.token-behind.new.self _ None _ c.text.ensures c.in-None.ensures (ap Err c.stray.ensures))
+    c.in_ok-digit.ensures central local _
+    (chosen (central ∷ local) mode_order after_mode past_mode c.in_ok-digit.digit c.token_behind.new.self _ None _ c.text.ensures c.in-None.ensures (ap Err c.stray.ensures))

@@ -10,17 +10,17 @@ use Rattle.orders.proofs.order.decimal.Goals as goal
 one_more : (text : List ℕ) (i : ℕ) (t : Bool) → i < length text → is_digit (get_or text i 0) ≡ t → all_digits (drop i text) ≡ (t && all_digits (drop (i + 1) text))
 one_more text i t h e = at_drop_more all_digits text i 0 h ∙ ap (λ b. b && all_digits (drop (i + 1) text)) e
 
-pub returns-then-not-is-ascii-digit : goal.returns-then-not-is-ascii-digit
-returns-then-not-is-ascii-digit c =
+pub returns-then-not-is_ascii_digit : goal.returns-then-not-is_ascii_digit
+returns-then-not-is_ascii_digit c =
     let text : List ℕ = c.args.text.now in
-    sym (cond-false (all_digits text) _ _ (sym c.loop-byte.invariant.1 ∙ one_more text c.loop-byte.byte-index _ c.loop-byte-test.true (sym c.if-not-is-ascii-digit.ensures.value)))
+    sym (cond-false (all_digits text) _ _ (sym c.loop-byte.invariant.1 ∙ one_more text c.loop-byte.byte-index _ c.loop-byte-test.true (sym c.if-not-is_ascii_digit.ensures.value)))
 
 pub loop-byte-preserved : goal.loop-byte-preserved
 loop-byte-preserved c =
     let text : List ℕ = c.args.text.now in
     let i : ℕ = c.loop-byte.byte-index in
     let more : number (take (i + 1) text) ≡ number (take i text) * 10 + (get_or text i 0 - 48) = fold_more (λ n d. n * 10 + (d - 48)) 0 text i 0 c.loop-byte-test.true in
-    (omega (arith, more, c.loop-byte.invariant.0, c.with-digit-value.ensures), sym (one_more text i _ c.loop-byte-test.true (sym c.if-not-is-ascii-digit.ensures.value)) ∙ c.loop-byte.invariant.1)
+    (omega (arith, more, c.loop-byte.invariant.0, c.with_digit-value.ensures), sym (one_more text i _ c.loop-byte-test.true (sym c.if-not-is_ascii_digit.ensures.value)) ∙ c.loop-byte.invariant.1)
 
 pub returns : goal.returns
 returns c =

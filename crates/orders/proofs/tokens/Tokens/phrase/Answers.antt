@@ -18,18 +18,18 @@ next wanted rest a t w f fs v e k h =
 pub loop-token-preserved : goal.loop-token-preserved
 loop-token-preserved c f fs v h =
     c.loop-token.invariant f fs v
-    (next c.loop-token.wanted c.next-token.new.self c.loop-token.self c.in-Some.token _ f fs v c.in-Some.ensures.0 c.text.ensures
-    (as_expected _ _ f fs c.loop-token.self c.expect.new.self v c.in-ok-expect.ensures h))
+    (next c.loop-token.wanted c.next_token.new.self c.loop-token.self c.in-Some.token _ f fs v c.in-Some.ensures.0 c.text.ensures
+    (as_expected _ _ f fs c.loop-token.self c.expect.new.self v c.in_ok-expect.ensures h))
 
-pub returns-in-err-expect : goal.returns-in-err-expect
-returns-in-err-expect c =
-    subst (λ x. Phrased x c.args.words.now c.args.self.now c.expect.new.self) (sym (broke _ _ c.from-residual.ensures.1))
+pub returns-in_err-expect : goal.returns-in_err-expect
+returns-in_err-expect c =
+    subst (λ x. Phrased x c.args.words.now c.args.self.now c.expect.new.self) (sym (broke _ _ c.from_residual.ensures.1))
     (λ f fs. c.loop-token.invariant f fs _
-    (next c.loop-token.wanted c.next-token.new.self c.loop-token.self c.in-Some.token _ f fs _ c.in-Some.ensures.0 c.text.ensures
-    (not_expected _ _ (f ∷ fs) c.loop-token.self _ c.in-err-expect.ensures)))
+    (next c.loop-token.wanted c.next_token.new.self c.loop-token.self c.in-Some.token _ f fs _ c.in-Some.ensures.0 c.text.ensures
+    (not_expected _ _ (f ∷ fs) c.loop-token.self _ c.in_err-expect.ensures)))
 
 pub returns : goal.returns
 returns c f fs v h =
     c.loop-token.invariant f fs v
-    (subst (λ ps. Reads v (behind (slots ps) (f ∷ fs)) c.loop-token.self) (sym c.in-default.ensures.0)
+    (subst (λ ps. Reads v (behind (slots ps) (f ∷ fs)) c.loop-token.self) (sym c.in_default.ensures.0)
     (subst (λ l. Reads v l c.loop-token.self) (sym (behind_nothing (f ∷ fs))) h))
