@@ -5,15 +5,15 @@ use Rattle.reply.specs.Replies.{cycles_text}
 use Rattle.reply.proofs.Fitting.{refused, taken, length_cycles, cycles_before}
 use Rattle.reply.proofs.text.cycles_reply.Goals as goal
 
-pub returns-in-err-needed : goal.returns-in-err-needed
-returns-in-err-needed c =
+pub returns-in_err-needed : goal.returns-in_err-needed
+returns-in_err-needed c =
     let buffer : List ℕ = c.args.buffer.now in
-    let text : List ℕ = cycles_text c.args.cycle c.args.window-flash in
-    let long : c.cycles-length.result ≡ length text = c.cycles-length.ensures.count ∙ length_cycles c.args.cycle c.args.window-flash in
-    let short : ltb (length buffer) (length text) ≡ true = ap (ltb (length buffer)) (sym long) ∙ refused (ltb (length buffer) c.cycles-length.result) c.in-err-needed.field-0.0 c.cycles-length.result c.in-err-needed.ensures in
-    let p = err_from_is_err_and c.from-residual.result c.from-residual.ensures.1 in
+    let text : List ℕ = cycles_text c.args.cycle c.args.window_flash in
+    let long : c.cycles_length.result ≡ length text = c.cycles_length.ensures.count ∙ length_cycles c.args.cycle c.args.window_flash in
+    let short : ltb (length buffer) (length text) ≡ true = ap (ltb (length buffer)) (sym long) ∙ refused (ltb (length buffer) c.cycles_length.result) c.in_err-needed.field-0.0 c.cycles_length.result c.in_err-needed.ensures in
+    let p = err_from_is_err_and c.from_residual.result c.from_residual.ensures.1 in
     record {
-      result = p.1 ∙ ap Err p.2 ∙ c.in-err-needed.ensures ∙ ap (λ n. cond (ltb (length buffer) n) (Err n) (Ok n)) long;
+      result = p.1 ∙ ap Err p.2 ∙ c.in_err-needed.ensures ∙ ap (λ n. cond (ltb (length buffer) n) (Err n) (Ok n)) long;
       bytes = sym (cond-true (ltb (length buffer) (length text)) buffer (text ++ drop (length text) buffer) short);
       few = rw p.1 tt;
     }
@@ -21,15 +21,15 @@ returns-in-err-needed c =
 pub returns : goal.returns
 returns c =
     let buffer : List ℕ = c.args.buffer.now in
-    let text : List ℕ = cycles_text c.args.cycle c.args.window-flash in
-    let long : c.cycles-length.result ≡ length text = c.cycles-length.ensures.count ∙ length_cycles c.args.cycle c.args.window-flash in
-    let fits = taken (ltb (length buffer) c.cycles-length.result) c.in-ok-needed.needed c.cycles-length.result c.in-ok-needed.ensures in
+    let text : List ℕ = cycles_text c.args.cycle c.args.window_flash in
+    let long : c.cycles_length.result ≡ length text = c.cycles_length.ensures.count ∙ length_cycles c.args.cycle c.args.window_flash in
+    let fits = taken (ltb (length buffer) c.cycles_length.result) c.in_ok-needed.needed c.cycles_length.result c.in_ok-needed.ensures in
     let room : ltb (length buffer) (length text) ≡ false = ap (ltb (length buffer)) (sym long) ∙ fits.0 in
     record {
       result = ap Ok (fits.1 ∙ long) ∙ sym (cond-false (ltb (length buffer) (length text)) (Err (length text)) (Ok (length text)) room);
       bytes =
-          c.lay-cycles.ensures ∙ cycles_before c.args.cycle c.args.window-flash (drop c.in-ok-needed.needed buffer) ∙
+          c.lay_cycles.ensures ∙ cycles_before c.args.cycle c.args.window_flash (drop c.in_ok-needed.needed buffer) ∙
           ap (λ n. text ++ drop n buffer) (fits.1 ∙ long) ∙
           sym (cond-false (ltb (length buffer) (length text)) buffer (text ++ drop (length text) buffer) room);
-      few = let few = c.cycles-length.ensures.few in let same = fits.1 in omega arith;
+      few = let few = c.cycles_length.ensures.few in let same = fits.1 in omega arith;
     }
