@@ -1,5 +1,5 @@
 -- Two strategies of a kind are equal where what they hold is: their facts have one proof each.
-use Rattle.std.proofs.Common.{◌≡◌, ℕ, ◌*◌, ◌<◌, ◌≤◌, get_or}
+use Rattle.std.proofs.Common.{◌≡◌, ◌*◌, ◌<◌, ◌≤◌}
 use mathlib.Core.HLevel.{is_prop→PathP}
 use native.Mathlib.Bridge.{le_prop}
 use Rattle.strategy.specs.declared.alinea.Alinea.{Alinea}

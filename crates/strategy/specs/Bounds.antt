@@ -1,11 +1,12 @@
 -- The limits that the rules keep, as the types of the strategies ask for them.
-use Rattle.std.specs.Prelude.{◌≡◌, ℕ, zero, suc, ◌+◌, ◌-◌, ◌*◌, ◌/◌, ◌%◌, ◌<◌, ◌≤◌, min, max, true, false, List, [], ◌∷◌, map, length, ℤ, pos, negsuc, Some, None, Option, ◌==◌, slice_index, refl}
+use Rattle.std.specs.Prelude.{◌≡◌, ℕ, zero, suc, ◌+◌, ◌*◌, ◌/◌, ◌%◌, ◌<◌, ◌≤◌, min, true, false, List, [], ◌∷◌, map, length, ℤ, pos, negsuc, Some, None, Option, ◌==◌, slice_index, refl}
 use Rattle.std.proofs.Common.{ap, arith, le-div_iff_mul-le, div-lt_iff_lt-mul, mod-lt, eqb-true}
 use Rattle.std.proofs.Math.Nat.{div-add-mod}
 use Rattle.std.proofs.lemmas.Bool.{eqb-false}
 use Rattle.strategy.specs.declared.measure.Measure.{Measure}
 use Rattle.strategy.specs.Drawn.{drawn, drawn_cycle, Cycles}
 use Rattle.strategy.specs.Alinea.{flow_after, cycle_of_flow}
+use Rattle.strategy.specs.Hourly.{hour_of}
 use Rattle.strategy.specs.Limiter.{own_after}
 
 pub drawn_least : (low high : ℕ) (z : ℤ) → low ≤ high → low ≤ drawn low high z
@@ -51,3 +52,10 @@ drawn_cycle_lem (c ∷ cs) (suc k) h = drawn_cycle_lem cs k (omega arith)
 
 pub drawn_cycles : (cs : List ℕ) → length cs ≡ 24 → Cycles (map drawn_cycle cs)
 drawn_cycles cs e k h = drawn_cycle_lem cs k (omega arith)
+
+-- flows in tenths compare as the whole ones
+pub tenfold : {a b : ℕ} → a ≤ b → 10 * a ≤ 10 * b
+tenfold h = omega arith
+
+pub hour_below_24 : (minute : ℕ) → hour_of minute < 24
+hour_below_24 minute = mod-lt (minute / 60) (omega arith)

@@ -1,17 +1,16 @@
 -- The meanings of the strategies: states, rule, and the cycle of each state with its limits.
-use Rattle.std.specs.Prelude.{◌≡◌, ℕ, ◌*◌, ◌<◌, ◌≤◌, length, Option, slice_index}
-use Rattle.std.proofs.Common.{arith, mod-lt}
+use Rattle.std.specs.Prelude.{ℕ, ◌*◌, ◌≤◌, Option, slice_index}
+use Rattle.std.proofs.Common.{arith}
 use Rattle.sheet.specs.declared.sheet.Sheet.{Sheet}
 use Rattle.strategy.specs.declared.measure.Measure.{Measure}
 use Rattle.strategy.specs.declared.alinea.Alinea.{Alinea}
 use Rattle.strategy.specs.declared.hourly.HourlyPlan.{HourlyPlan}
 use Rattle.strategy.specs.declared.limiter.Limiter.{Limiter}
 use Rattle.strategy.specs.declared.strategy.Strategy.{Ghosts as StrategyMeaning}
-use Rattle.strategy.specs.Drawn.{Cycles}
 use Rattle.strategy.specs.Alinea.{flow_after, cycle_of_flow}
 use Rattle.strategy.specs.Hourly.{hour_of}
 use Rattle.strategy.specs.Limiter.{own_after}
-use Rattle.strategy.specs.Bounds.{flow_least, flow_most, cycle_of_flow_within, own_least_lem, own_most_lem}
+use Rattle.strategy.specs.Bounds.{flow_least, flow_most, cycle_of_flow_within, own_least_lem, own_most_lem, tenfold, hour_below_24}
 
 -- ALINEA with a sheet's figures, at its first flow
 abbrev pub fresh_alinea : Sheet → Alinea
@@ -22,8 +21,8 @@ fresh_alinea s =
       highest_flow = s.draft.highest_flow;
       gain = s.draft.gain;
       critical_occupancy = s.draft.critical_occupancy;
-      flow_not_below = let h : s.draft.lowest_flow ≤ s.draft.first_flow = s.first_flow_not_below in omega arith;
-      flow_not_above = let h : s.draft.first_flow ≤ s.draft.highest_flow = s.first_flow_not_above in omega arith;
+      flow_not_below = tenfold s.first_flow_not_below;
+      flow_not_above = tenfold s.first_flow_not_above;
       lowest_flow_least = s.lowest_flow_within.0;
       highest_flow_most = s.highest_flow_within.1;
       gain_most = s.gain_within.1;
@@ -65,7 +64,7 @@ told_hourly p minute m =
       cycles = p.cycles;
       hour = hour_of minute;
       cycles_within = p.cycles_within;
-      hour_of_day = mod-lt _ (omega arith);
+      hour_of_day = hour_below_24 minute;
     }
 
 pub hourly_within : (p : HourlyPlan) → (4 ≤ slice_index p.cycles p.hour) × (slice_index p.cycles p.hour ≤ 120)

@@ -13,7 +13,7 @@ impl<S: Strategy> Limiter<S> {
     // A limiter over this strategy, at its cycle, with a step drawn into 1 to 30.
     pub fn new(below: S, step: u32) -> Limiter<S>
         ensures below { result.below ≡ below }
-        ensures own { result.own ≡ cycle below }
+        ensures own { result.own ≡ S.cycle below }
         ensures step { result.step ≡ drawn 1 30 (pos step) }
     {
         let own = below.ask();
@@ -27,8 +27,8 @@ impl<S: Strategy> Limiter<S> {
 
 // Tells a strategy, and answers the cycle that it then has.
 fn cycle_after<S: Strategy>(strategy: &mut S, minute: u32, measure: Option<Measure>) -> u32
-    ensures told { strategy.new ≡ next strategy.old minute measure }
-    ensures value { result ≡ cycle (next strategy.old minute measure) }
+    ensures told { strategy.new ≡ S.next strategy.old minute measure }
+    ensures value { result ≡ S.cycle (S.next strategy.old minute measure) }
 {
     strategy.tell(minute, measure);
     strategy.ask()

@@ -2,23 +2,23 @@ use Rattle.std.proofs.Common.{arith}
 use Rattle.strategy.proofs.Products.{Moving, product_fits, moved_fits, moved_is}
 use Rattle.strategy.proofs.alinea.calls.moved_flow.Goals as goal
 
-moving : (c : goal.After-below-critical) → Moving c.from.result c.from-2.result c.below-critical.result c.args.flow-tenths c.args.gain c.args.critical c.args.occupancy
+moving : (c : goal.After-below_critical) → Moving c.from.result c.from-2.result c.below_critical.result c.args.flow_tenths c.args.gain c.args.critical c.args.occupancy
 moving c =
     record {
       flow_is = c.from.ensures;
       gain_is = c.from-2.ensures;
-      room_is = c.below-critical.ensures;
+      room_is = c.below_critical.ensures;
       gain_most = c.requires;
       flow_fits = omega arith;
       critical_fits = omega arith;
       occupancy_fits = omega arith;
     }
 
-pub overflow-mul-result : goal.overflow-mul-result
-overflow-mul-result c = product_fits _ _ _ _ _ _ _ (moving c)
+pub overflow_mul-result : goal.overflow_mul-result
+overflow_mul-result c = product_fits _ _ _ _ _ _ _ (moving c)
 
-pub overflow-add-result : goal.overflow-add-result
-overflow-add-result c = moved_fits _ _ _ _ _ _ _ (moving c)
+pub overflow_add-result : goal.overflow_add-result
+overflow_add-result c = moved_fits _ _ _ _ _ _ _ (moving c)
 
 pub returns : goal.returns
 returns c = moved_is _ _ _ _ _ _ _ (moving c)
