@@ -11,12 +11,12 @@ returns g c =
     let n = c.args.next in
     let k = c.args.put in
     let d = c.args.list.now in
-    let s = c.start-in-start.result in
-    let all : c.older-part-first.result.now ++ c.newer-part-second.result.now ≡ kept ps n k =
-    ap (λ xs. xs ++ c.newer-part-second.result.now) c.older-part-first.ensures ∙ ap (λ ys. older ps n k ++ ys) c.newer-part-second.ensures in
-    let many = c.copy-both.ensures.many in
-    let list = c.copy-both.ensures.list in
+    let s = c.start_in-start.result in
+    let all : c.older_part-first.result.now ++ c.newer_part-second.result.now ≡ kept ps n k =
+    ap (λ xs. xs ++ c.newer_part-second.result.now) c.older_part-first.ensures ∙ ap (λ ys. older ps n k ++ ys) c.newer_part-second.ensures in
+    let many = c.copy_both.ensures.many in
+    let list = c.copy_both.ensures.list in
     record {
-      many = tail_count _ (kept ps n k) d _ c.copy-both.new.list c.args.from s c.copy-both.result all c.start-in-start.ensures (take_rest d s) many list;
-      list = tail_list _ (kept ps n k) d _ c.copy-both.new.list c.args.from s c.copy-both.result all c.start-in-start.ensures (take_rest d s) many list;
+      many = tail_count _ (kept ps n k) d _ c.copy_both.new.list c.args.from s c.copy_both.result all c.start_in-start.ensures (take_rest d s) many list;
+      list = tail_list _ (kept ps n k) d _ c.copy_both.new.list c.args.from s c.copy_both.result all c.start_in-start.ensures (take_rest d s) many list;
     }

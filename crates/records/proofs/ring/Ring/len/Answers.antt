@@ -5,4 +5,4 @@ use Rattle.records.proofs.ring.Ring.len.Goals as goal
 pub returns : goal.returns
 returns g c =
     let r = c.args.self.now in
-    c.kept-count.ensures ∙ sym (length_kept r.places.now r.next r.put)
+    c.kept_count.ensures ∙ sym (length_kept r.places.now r.next r.put)
