@@ -5,7 +5,7 @@ use Rattle.plan.proofs.several.fill.Given as goal
 
 abbrev pub invariant-loop-at : goal.invariant-loop-at
 invariant-loop-at g l =
-    Reading g.T-as-Value.means g.T-as-Value.named l.first (fields_left l.initial.fields) l.initial.into l.into l.count
+    Reading g.T.Value.means g.T.Value.named l.first (fields_left l.initial.fields) l.initial.into l.into l.count
     (fields_left l.fields)
 
 abbrev pub decreases-loop-at : goal.decreases-loop-at

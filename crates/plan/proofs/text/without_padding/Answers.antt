@@ -1,4 +1,4 @@
-use Rattle.std.proofs.Common.{◌≡◌, ◌-◌, eqb, take, ap, arith, rules, ne_eqb}
+use Rattle.std.proofs.Common.{◌≡◌, eqb, take, ap, arith, rules, ne_eqb}
 use Rattle.std.specs.List.{suffix_len}
 use Rattle.std.proofs.lemmas.List.{take_all}
 use Rattle.std.proofs.lemmas.List.Sums.{suffix_len-take_yes, suffix_len-take_no}

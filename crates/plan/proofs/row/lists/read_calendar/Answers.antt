@@ -9,7 +9,7 @@ use Rattle.plan.proofs.row.lists.read_calendar.Goals as goal
 
 pub returns : goal.returns
 returns c =
-    let read = c.in-ok-count.ensures in
-    front_filled {B = Calendar} (λ xs k. record { ranges = xs; count = k }) 64 no_range c.fill.new.into c.in-ok-count.count
+    let read = c.in_ok-count.ensures in
+    front_filled {B = Calendar} (λ xs k. record { ranges = xs; count = k }) 64 no_range c.fill.new.into c.in_ok-count.count
     (at_most range_of Range 64 2 (fields_left c.args.fields.now))
     read.0 c.fill.auto.into read.2 read.1
