@@ -1,5 +1,5 @@
 -- Command lines and breaker resets: what they answer, and what they make of the station.
-use Rattle.std.specs.Prelude.{ℕ, Bool, true, false, cond, not, List, [], ◌∷◌, ◌++◌, length, drop, Some, None, Ok, Err, codes, decimal, Option, Result, nat_lt}
+use Rattle.std.specs.Prelude.{ℕ, Bool, true, false, cond, List, [], ◌∷◌, ◌++◌, length, drop, Some, None, Ok, Err, codes, decimal, Option, Result, nat_lt}
 use Rattle.sheet.specs.declared.sheet.Sheet.{Sheet}
 use Rattle.lamps.specs.declared.colour.Colour.TheVariants as colour
 use Rattle.orders.specs.declared.order.Order.{Order}

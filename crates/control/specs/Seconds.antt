@@ -16,10 +16,8 @@ use Rattle.control.specs.declared.answer.Trip.{Trip}
 use Rattle.control.specs.declared.stage.Conditions.{Conditions}
 use Rattle.control.specs.declared.stage.Light.TheVariants as light
 use Rattle.control.specs.declared.stage.Light.{Light}
-use Rattle.control.specs.declared.stage.Meter.{Meter}
 use Rattle.control.specs.declared.stage.Stage.{Stage}
 use Rattle.control.specs.declared.stage.Stage.TheVariants as stage
-use Rattle.control.specs.declared.state.Command.{Command}
 use Rattle.control.specs.declared.state.Counts.{Counts}
 use Rattle.control.specs.declared.state.Mode.{Mode}
 use Rattle.control.specs.declared.state.Mode.TheVariants.{Local, Central}

@@ -1,5 +1,5 @@
 -- The step of each phase in a second without a trip.
-use Rattle.std.specs.Prelude.{ℕ, ◌+◌, Bool, true, false, cond, not, ◌&&◌, nat_lt}
+use Rattle.std.specs.Prelude.{◌+◌, Bool, false, cond, not, ◌&&◌, nat_lt}
 use Rattle.sheet.specs.declared.sheet.Sheet.{Sheet}
 use Rattle.control.specs.declared.stage.Conditions.{Conditions}
 use Rattle.control.specs.declared.stage.Stage.{Stage}
