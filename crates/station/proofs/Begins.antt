@@ -7,7 +7,7 @@ use Rattle.control.specs.declared.stage.Light.TheVariants as light
 use Rattle.control.specs.declared.stage.Meter.{Meter}
 use Rattle.control.specs.declared.stage.Stage.{Stage}
 use Rattle.control.specs.declared.stage.Stage.TheVariants as stage
-use Rattle.control.specs.Figures.{T1, T2, T3}
+use Rattle.control.specs.Figures.{T2}
 use Rattle.control.specs.Metering.{started, runs, clocked_by, light_step, metered}
 use Rattle.control.specs.Steps.{stepped, begins}
 

@@ -1,10 +1,9 @@
 -- The station's loops: their figures are the sheet's, and a second closes a period where the rule says.
-use Rattle.std.proofs.Common.{◌≡◌, ℕ, ◌*◌, ◌<◌, ◌≤◌, Bool, true, false, cond, leb, List, [], ◌∷◌, ◌++◌, length, Some, None, Option, sym, refl, ap, ◌∙◌, subst, arith, leb-false, leb-true}
+use Rattle.std.proofs.Common.{◌≡◌, ℕ, ◌*◌, ◌<◌, ◌≤◌, Bool, true, false, cond, leb, List, [], ◌∷◌, ◌++◌, length, Some, sym, refl, ap, ◌∙◌, subst, arith, leb-false, leb-true}
 use mathlib.Core.HLevel.{is_prop→PathP}
 use native.Mathlib.Bridge.{le_prop}
 use Rattle.sheet.specs.declared.sheet.Sheet.{Sheet}
 use Rattle.sheet.specs.Limits.{Within}
-use Rattle.strategy.specs.declared.measure.Measure.{Measure}
 use Rattle.loops.specs.declared.figures.LoopFigures.{LoopFigures}
 use Rattle.loops.specs.declared.tally.PeriodTally.{PeriodTally}
 use Rattle.loops.specs.declared.tally.Tallied.{Tallied}

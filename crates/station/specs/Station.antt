@@ -1,5 +1,5 @@
 -- A station as its rules see it, and what its calls promise.
-use Rattle.std.specs.Prelude.{◌≡◌, ℕ, Bool, List, [], ◌∷◌, length, IfErr, Result}
+use Rattle.std.specs.Prelude.{◌≡◌, ℕ, Bool, List, length, IfErr, Result}
 use Rattle.sheet.specs.declared.calendar.MinuteRange.{MinuteRange}
 use Rattle.strategy.specs.declared.strategy.Strategy.{Ghosts as StrategyMeaning}
 use Rattle.loops.specs.Held.{Holds}

@@ -14,7 +14,7 @@ returns g c =
         phase = c.phase.ensures i;
         mode = self.command.mode;
         wanted = self.command.wanted;
-        cycle = c.running-cycle.ensures i;
+        cycle = c.running_cycle.ensures i;
       };
       looked = λ s h l.
           let m = model g.H.LampHead self l.0 in
@@ -22,6 +22,6 @@ returns g c =
             law = law_holds st f s h m l.2;
             colour = c.ordered.ensures.value ∙ colour_shown_lem st f s h m l.2;
             phase = c.phase.ensures ∙ phase_shown_lem st f s h m l.2;
-            cycle = c.running-cycle.ensures ∙ cycle_shown_lem st f s h m l.2;
+            cycle = c.running_cycle.ensures ∙ cycle_shown_lem st f s h m l.2;
           };
     }

@@ -1,6 +1,6 @@
 use Rattle.std.proofs.Common.{◌≡◌, [], refl}
 use Rattle.control.specs.Fresh.{fresh}
-use Rattle.station.specs.Station.{model, Stands}
+use Rattle.station.specs.Station.{Stands}
 use Rattle.station.proofs.Loops.{figures_same}
 use Rattle.station.proofs.station.Station.open.Goals as goal
 

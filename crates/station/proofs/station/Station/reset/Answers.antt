@@ -1,11 +1,10 @@
 use Rattle.std.proofs.Common.{◌≡◌, Bool, true, false, cond, List, Ok, Err, refl, ap, ◌∙◌}
 use Rattle.loops.specs.Rules.{Second}
-use Rattle.control.specs.declared.answer.Refused.{Refused}
 use Rattle.control.specs.declared.answer.Refused.TheVariants.{NotTripped}
 use Rattle.control.specs.Lines.{after_reset, reset_answer, reset_taken}
 use Rattle.control.specs.Model.{Model}
 use Rattle.control.specs.Phases.{is_tripped}
-use Rattle.station.specs.Station.{model, Stands}
+use Rattle.station.specs.Station.{model}
 use Rattle.station.proofs.station.Station.reset.Goals as goal
 
 -- what the rule comes to where it is known whether the station is tripped
@@ -15,11 +14,11 @@ reset-is m b e = ap (λ x. cond x (reset_taken m) m) e
 answer-is : {S : Type 0} (m : Model S) (b : Bool) → b ≡ is_tripped m.stage → cond b (Ok tt) (Err NotTripped) ≡ reset_answer m
 answer-is m b e = ap (λ x. cond x (Ok tt) (Err NotTripped)) e
 
-pub returns-then-not-is-tripped : goal.returns-then-not-is-tripped
-returns-then-not-is-tripped g c =
+pub returns-then-not-is_tripped : goal.returns-then-not-is_tripped
+returns-then-not-is_tripped g c =
     let hd = g.H.LampHead in
     let self = c.args.self.now in
-    let e : false ≡ is_tripped self.stage = c.if-not-is-tripped.ensures in
+    let e : false ≡ is_tripped self.stage = c.if-not-is_tripped.ensures in
     record {
       sheet = refl;
       done = record {
@@ -35,7 +34,7 @@ pub returns : goal.returns
 returns g c =
     let hd = g.H.LampHead in
     let self = c.args.self.now in
-    let e : true ≡ is_tripped self.stage = c.if-not-is-tripped.ensures in
+    let e : true ≡ is_tripped self.stage = c.if-not-is_tripped.ensures in
     let same : (ss : List Second) → _ ≡ reset_taken (model hd self ss) = λ ss. λ i. record {
       strategy = self.strategy;
       readings = ss;
