@@ -4,4 +4,4 @@ use Rattle.observer.proofs.observer.Observer.after_second.Goals as goal
 
 pub returns : goal.returns
 returns c rs row k shown before =
-    second-seen rs row k shown before c.is-window-flash-in-flash.ensures c.is-of-wait.ensures c.wait-with-waited.ensures c.opens.ensures c.after-second.ensures
+    second-seen rs row k shown before c.is_window_flash-in_flash.ensures c.is_of_wait.ensures c.wait_with-waited.ensures c.opens.ensures c.after_second.ensures
