@@ -28,12 +28,12 @@ pub trait LampHead {
     // Answers the colour ordered.
     fn ordered(&self) -> Colour
         ensures value { result ≡ colour self.now }
-        ensures same { self.now ≡ self.now };
+        ensures same { self.exit.now ≡ self.entry.now };
 
     // Answers the set of lamps that a lamp word stands for.
     fn read(&self, word: u32) -> u32
         ensures value { result ≡ shows self.now word }
-        ensures same { self.now ≡ self.now };
+        ensures same { self.exit.now ≡ self.entry.now };
 
     // Cuts the head: it is dark, and stays so until it is restored.
     fn cut(&mut self)
@@ -53,5 +53,5 @@ pub trait LampWords: LampHead {
     // A word that stands for this set; of a number above 7 its remainder by 8 is taken for the set.
     fn word_for(&self, lit: u32) -> u32
         ensures value { Self.LampHead.shows self.now result ≡ lit % 8 }
-        ensures same { self.now ≡ self.now };
+        ensures same { self.exit.now ≡ self.entry.now };
 }
