@@ -1,5 +1,5 @@
 -- The answer buffer of a line.
-use Rattle.std.proofs.Common.{◌≡◌, ℕ, zero, suc, min, List, ◌∷◌, take, replicate, Result, sym, ap, ◌∙◌, subst, arith}
+use Rattle.std.proofs.Common.{◌≡◌, ℕ, zero, suc, min, List, ◌∷◌, take, replicate, Result, ap, ◌∙◌, subst, arith}
 use Rattle.strategy.specs.declared.strategy.Strategy.{Ghosts as StrategyMeaning}
 use Rattle.lamps.specs.declared.head.LampHead.{Ghosts as HeadMeaning}
 use Rattle.control.specs.declared.answer.Refused.{Refused}

@@ -6,9 +6,8 @@ use Rattle.lamps.specs.declared.head.LampHead.{Ghosts as HeadMeaning}
 use Rattle.control.specs.declared.answer.Answer.{Answer}
 use Rattle.control.specs.declared.answer.Refused.{Refused}
 use Rattle.control.specs.Model.{Given}
-use Rattle.runlaw.specs.History.{History, Act, Second, Line, Reset}
+use Rattle.runlaw.specs.History.{History, Second, Line, Reset}
 use Rattle.runlaw.specs.Log.{Log, Row, row, reset_since, length_fixed, log}
-use Rattle.observer.specs.declared.observer.Observer.{Observer}
 use Rattle.observer.specs.Totals.{Shown, observer_of, unless_taken, refusals_in}
 use Rattle.replay.specs.declared.answered.Reply.{Reply}
 use Rattle.replay.specs.declared.run.Run.{Run}

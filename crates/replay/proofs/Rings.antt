@@ -1,5 +1,5 @@
 -- What a second put into rings of one place.
-use Rattle.std.proofs.Common.{◌≡◌, ℕ, suc, ◌-◌, min, List, [], ◌∷◌, ◌++◌, length, get_or, take, drop, Some, None, Option, sym, refl, ap, ◌∙◌, subst, arith}
+use Rattle.std.proofs.Common.{◌≡◌, suc, min, List, [], ◌∷◌, ◌++◌, length, get_or, take, drop, Some, None, Option, sym, refl, ap, ◌∙◌, arith}
 use Rattle.records.specs.declared.ring.Ring.{Ring}
 use Rattle.records.specs.Copied.{copied_count, copied_into}
 use Rattle.records.specs.Kept.{last_of}

@@ -1,5 +1,5 @@
 -- What a plan has before its first act.
-use Rattle.std.specs.Prelude.{ℕ, cond, List, ◌++◌, is_some, Some, None, Ok, Err, codes, Option, Result}
+use Rattle.std.specs.Prelude.{ℕ, List, ◌++◌, Some, None, Ok, Err, codes, Option, Result}
 use Rattle.sheet.specs.declared.sheet.Sheet.{Sheet}
 use Rattle.plan.specs.declared.row.StrategyRow.{StrategyRow}
 use Rattle.plan.specs.declared.row.HeadKind.{HeadKind}

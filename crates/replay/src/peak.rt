@@ -35,7 +35,7 @@ fn close<S: Strategy>(
     minute: u32,
     measure: Option<Measure>,
 ) -> PeriodRow
-    ensures told { strategy.new ≡ next strategy.old minute measure }
+    ensures told { strategy.new ≡ S.next strategy.old minute measure }
     ensures row { result ≡ period_row S.Strategy strategy.old number minute measure }
 {
     strategy.tell(minute, measure);

@@ -1,4 +1,4 @@
-use Rattle.std.proofs.Common.{◌≡◌, min, take, Ok, Err, sym, refl, ap, ◌∙◌, subst, arith}
+use Rattle.std.proofs.Common.{◌≡◌, min, take, Ok, Err, sym, ap, ◌∙◌, subst, arith}
 use Rattle.std.proofs.lemmas.Result.{err_from_is_err_and}
 use Rattle.control.specs.Lines.{buffer_after}
 use Rattle.runlaw.specs.History.{Line}
@@ -7,10 +7,10 @@ use Rattle.replay.specs.Played.{GoesOn, LinePlayed}
 use Rattle.replay.specs.Replies.{reply_in}
 use Rattle.replay.proofs.once.say.Goals as goal
 
-pub returns-in-err-bytes : goal.returns-in-err-bytes
-returns-in-err-bytes g c =
-    let p = err_from_is_err_and c.from-residual.result c.from-residual.ensures.1 in
-    let k = c.in-err-bytes.ensures in
+pub returns-in_err-bytes : goal.returns-in_err-bytes
+returns-in_err-bytes g c =
+    let p = err_from_is_err_and c.from_residual.result c.from_residual.ensures.1 in
+    let k = c.in_err-bytes.ensures in
     subst (LinePlayed g.S.Strategy g.H.LampHead c.args.station.now c.args.text.now c.args.buffer.now c.line.new.self c.line.new.buffer) (sym (p.1 ∙ ap Err p.2))
     (record { sheet = k.sheet; bytes = k.done.unaltered.1; lived = k.lived })
 
@@ -23,8 +23,8 @@ returns g c =
     let line = c.args.text.now in
     let buffer = c.args.buffer.now in
     let buffer' = c.line.new.buffer in
-    let n = c.in-ok-bytes.bytes in
-    let k = c.in-ok-bytes.ensures in
+    let n = c.in_ok-bytes.bytes in
+    let k = c.in_ok-bytes.ensures in
     let few : min n 34 ≡ n = let h = k.few in omega arith in
     let same : take n buffer' ≡ reply_in c.of.result = ap (λ m. take m buffer') (sym few) ∙ sym c.of.ensures in
     record {

@@ -10,10 +10,10 @@ returns-in-Closed g c =
       tallied = Closed c.in-Closed.measure;
       law = c.in-Closed.ensures.law;
       figures = c.in-Closed.ensures.same;
-      seconds = c.one-more-self.ensures;
+      seconds = c.one_more-self.ensures;
       did = (
-        ap Some (c.close.ensures.row ∙ ap (λ n. period_row g.S.Strategy before.strategy n (c.args.minute % 10080) c.in-Closed.measure) c.one-more-self-in-Closed.ensures),
+        ap Some (c.close.ensures.row ∙ ap (λ n. period_row g.S.Strategy before.strategy n (c.args.minute % 10080) c.in-Closed.measure) c.one_more-self-in-Closed.ensures),
         c.close.ensures.told,
-        c.one-more-self-in-Closed.ensures,
+        c.one_more-self-in-Closed.ensures,
       );
     }

@@ -7,15 +7,15 @@ use Rattle.replay.proofs.run.Run.line.Goals as goal
 
 pub returns : goal.returns
 returns g c =
-    let done = c.do-line-result.ensures in
-    let r = c.do-line-result.result in
+    let done = c.do_line-result.ensures in
+    let r = c.do_line-result.result in
     let buffer = buffer_for c.args.line in
-    let behind : Run g.row.S.Denot g.row.H.Denot = record { station = c.do-line-result.new.station; observer = c.counted-unless-self.result } in
+    let behind : Run g.row.S.Denot g.row.H.Denot = record { station = c.do_line-result.new.station; observer = c.counted_unless-self.result } in
     record {
       played = done;
       view = c.look-view.ensures.view;
       goes_on =
           line-follows g.S.Strategy g.H.LampHead c.args.self.now behind done.sheet c.look-view.result.colour (ap (λ v. v.colour) c.look-view.ensures.view)
-          c.args.line.text.now buffer (buffer_after (replied_in r) buffer) (replied_in r) c.is-ok.result (c.is-ok.ensures.value ∙ kept_of_taken r) done.lived
-          c.counted-unless-self.ensures;
+          c.args.line.text.now buffer (buffer_after (replied_in r) buffer) (replied_in r) c.is_ok.result (c.is_ok.ensures.value ∙ kept_of_taken r) done.lived
+          c.counted_unless-self.ensures;
     }

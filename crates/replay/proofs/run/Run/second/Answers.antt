@@ -6,13 +6,13 @@ use Rattle.replay.proofs.run.Run.second.Goals as goal
 
 pub returns : goal.returns
 returns g c =
-    let done = c.do-second-outcome.ensures in
-    let behind : Run g.row.S.Denot g.row.H.Denot = record { station = c.do-second-outcome.new.station; observer = c.after-second-self.result } in
+    let done = c.do_second-outcome.ensures in
+    let behind : Run g.row.S.Denot g.row.H.Denot = record { station = c.do_second-outcome.new.station; observer = c.after_second-self.result } in
     record {
       played = done;
       view = c.look-view.ensures.view;
       goes_on =
           second-follows g.S.Strategy g.H.LampHead c.args.self.now behind done.sheet c.look-view.result.colour (ap (λ v. v.colour) c.look-view.ensures.view)
-          (given_in c.args.second c.do-second-outcome.result.word) c.do-second-outcome.result.answer c.is-some.result c.is-some.ensures done.lived
-          c.after-second-self.ensures;
+          (given_in c.args.second c.do_second-outcome.result.word) c.do_second-outcome.result.answer c.is_some.result c.is_some.ensures done.lived
+          c.after_second-self.ensures;
     }
