@@ -67,11 +67,12 @@ fn most_lanes(rt: HostRuntime) -> Result<(), Fail> {
     let second = second_in(row.as_slice())?;
     assert_eq!(rt;
         second.lanes.as_slice(),
-        &[LaneReading {
+        [LaneReading {
             seen: 1,
             sound: 2,
             busy_ms: 3,
         }; 16]
+        .as_slice()
     );
     Ok(())
 }

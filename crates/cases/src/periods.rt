@@ -97,6 +97,11 @@ struct Case {
     answer: Tallied,
 }
 
+// What a second answered is what the case says.
+fn closed_with(rt: &impl Abort, answered: Tallied, answer: Tallied, what: &str) {
+    assert_eq!(rt; answered, answer, "{what}");
+}
+
 // The period of the case closes in its tenth second, and as the case says.
 fn closes_as(rt: &impl Abort, case: Case) -> Result<(), Fail> {
     let mut tally = tally_with(Chosen {
@@ -106,7 +111,7 @@ fn closes_as(rt: &impl Abort, case: Case) -> Result<(), Fail> {
     })?;
     run(rt, &mut tally, 1, &[case.first]);
     run(rt, &mut tally, 8, &[case.others]);
-    assert_eq!(rt; tally.second(&[case.others]), case.answer, "{}", case.what);
+    closed_with(rt, tally.second(&[case.others]), case.answer, case.what);
     Ok(())
 }
 
