@@ -9,6 +9,7 @@ use crate::drive::run;
 use crate::stop::Stop;
 use std::env;
 use std::fs::File;
+use std::process::ExitCode;
 
 // The plan of the one argument, or that of standard input.
 fn start(rt: &HostRuntime) -> Result<(), Stop> {
@@ -24,13 +25,13 @@ fn start(rt: &HostRuntime) -> Result<(), Stop> {
     }
 }
 
-fn main(rt: HostRuntime) -> Result<(), ()> {
+fn main(rt: HostRuntime) -> ExitCode {
     match start(&rt) {
-        Ok(()) => Ok(()),
-        Err(Stop::SheetRefused) => Err(()),
+        Ok(()) => ExitCode::SUCCESS,
+        Err(Stop::SheetRefused) => ExitCode::FAILURE,
         Err(stop) => {
             let _ = eprintln!(rt; "{stop}");
-            Err(())
+            ExitCode::FAILURE
         }
     }
 }
