@@ -10,7 +10,7 @@ pub mod read;
 pub mod row;
 mod second;
 mod several;
-mod strategy;
+mod strategy_row;
 pub mod text;
 mod value;
 mod words;

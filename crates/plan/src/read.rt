@@ -9,7 +9,7 @@ use crate::row::lists::read_calendar;
 use crate::row::{Row, RowFault};
 use crate::second::{read_second, read_seconds};
 use crate::several::fill_up;
-use crate::strategy::read_strategy;
+use crate::strategy_row::read_strategy;
 use crate::value::{expect_end, next_value};
 
 // Does the row say nothing? A row that begins with `#` is a comment.
