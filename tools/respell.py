@@ -15,11 +15,11 @@ import re
 import sys
 
 IDENT = re.compile(r"[^\s(){}\[\].,:;=→λ∷⊎×≡≤<>|+*/&!\"`@#←?◌∙↔¬⊥⌜⌝∗«»]+")
-DECLARED = re.compile(r"^\s*(?:(?:abbrev|unfoldable|pub|ruleset) +)*([^\s:(){}|=.,]+) *(?:\([^)]*\) *|\{[^}]*\} *)*:\s")
+DECLARED = re.compile(r"^\s*(?:(?:abbrev|unfoldable|pub|ruleset) +)*([^\s:(){}|=.,]+) *(?:\([^)]*\) *|\{[^}]*\} *)*:(?:\s|$)")
 # A lemma that would fall together with a definition or with a field gets `_lem` behind it.
 LEMMAS = {
     "all_known", "colour-shown", "cycle-shown", "drawn-cycle", "in-range", "is-whole", "last-text", "length-fixed", "own-least", "own-most",
-    "phase-shown", "placed-text", "refused-by",
+    "phase-shown", "placed-text", "refused-by", "second-added",
 }
 # The same in one file alone, where other files have a lemma of that name.
 APART = {("orders/proofs/Narrowing.antt", "one_more"): "one_more_lem"}

@@ -25,10 +25,10 @@ pub longer_of : (m n : ℕ) → max (capped m) (capped n) ≡ capped (max n m)
 longer_of m n = omega arith
 
 -- the totals with a row more
-pub second-added :
+pub second_added_lem :
     (rs : Log) (r : Row) (k : ℕ) →
     second_added (is_opening r rs) r.trip (wait_with (waits r) (capped (waited rs))) (totals_of rs k) ≡ totals_of (r ∷ rs) k
-second-added rs r k =
+second_added_lem rs r k =
     let seconds = one_more (length rs) in
     let openings = one_more_if (is_opening r rs) (openings_in rs) in
     let wait = wait_goes_on (waits r) (waited rs) in
@@ -36,7 +36,7 @@ second-added rs r k =
     let trips = one_more_if r.trip (trips_in rs) in cc
 
 -- the observer after a second, from what its parts answer
-pub second-seen :
+pub second_seen :
     (rs : Log) (r : Row) (k : ℕ) {c : Colour} {p : Phase} {trips present : Bool} {o : Observer} {flash waits opens : Bool} {wait : ℕ} {t : Totals} →
     Shown r c p trips present →
     o ≡ observer_of rs k →
@@ -46,5 +46,5 @@ pub second-seen :
     opens ≡ (flash && not o.in_flash) →
     t ≡ second_added opens trips wait o.totals →
     ◌≡◌ {A = Observer} (record { totals = t; in_flash = flash; waited = wait }) (observer_of (r ∷ rs) k)
-second-seen rs r k shown before flashes goes_on waited-now opening added =
-    cc (second-added rs r k, wait_goes_on (waits r) (waited rs))
+second_seen rs r k shown before flashes goes_on waited-now opening added =
+    cc (second_added_lem rs r k, wait_goes_on (waits r) (waited rs))

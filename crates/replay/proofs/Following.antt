@@ -24,11 +24,11 @@ module _ {S H : Type 0} (st : StrategyMeaning S) (hd : HeadMeaning H) (before be
   counted_so_far : (s : S) (h : History) → RanThrough st hd before s h → before.observer ≡ observer_of (log behind.station.sheet st s h) (refusals_in h)
   counted_so_far s h r = r.counted ∙ ap (λ f. observer_of (log f st s h) (refusals_in h)) (sym sheet)
 
-  pub second-follows :
+  pub second_follows :
       (g : Given) (a : Answer) (trips : Bool) → trips ≡ is_some a.trip → GoesOn st hd before.station behind.station (Second g a (hd.colour behind.station.head)) →
       ((rs : Log) (row : Row) (k : ℕ) → Shown row colour a.phase trips g.presence → before.observer ≡ observer_of rs k → behind.observer ≡ observer_of (row ∷ rs) k) →
       (s : S) (h : History) → RanThrough st hd before s h → RanThrough st hd behind s (Second g a colour ∷ h)
-  second-follows g a trips tripped lived counts s h r =
+  second_follows g a trips tripped lived counts s h r =
       record {
         lived = subst (λ c. GoesOn st hd before.station behind.station (Second g a c)) (sym shown) lived s h r.lived;
         counted =
@@ -37,12 +37,12 @@ module _ {S H : Type 0} (st : StrategyMeaning S) (hd : HeadMeaning H) (before be
             counts (log f st s h) newest (refusals_in h) (record { colour = refl; phase = refl; trip = sym tripped; presence = refl }) (counted_so_far s h r);
       }
 
-  pub line-follows :
+  pub line_follows :
       (line buffer buffer' : List ℕ) (a : Result (List ℕ) Refused) (taken : Bool) → taken ≡ is_ok a →
       GoesOn st hd before.station behind.station (Line line buffer buffer' a (hd.colour behind.station.head)) →
       ((rs : Log) (k : ℕ) → before.observer ≡ observer_of rs k → behind.observer ≡ observer_of rs (unless_taken taken k)) →
       (s : S) (h : History) → RanThrough st hd before s h → RanThrough st hd behind s (Line line buffer buffer' a colour ∷ h)
-  line-follows line buffer buffer' a taken ok lived counts s h r =
+  line_follows line buffer buffer' a taken ok lived counts s h r =
       record {
         lived = subst (λ c. GoesOn st hd before.station behind.station (Line line buffer buffer' a c)) (sym shown) lived s h r.lived;
         counted =
@@ -50,11 +50,11 @@ module _ {S H : Type 0} (st : StrategyMeaning S) (hd : HeadMeaning H) (before be
             ap (λ b. observer_of (log behind.station.sheet st s h) (unless_taken b (refusals_in h))) ok;
       }
 
-  pub reset-follows :
+  pub reset_follows :
       (a : Result (Unit {0}) Refused) (taken : Bool) → taken ≡ is_ok a → GoesOn st hd before.station behind.station (Reset a (hd.colour behind.station.head)) →
       ((rs : Log) (k : ℕ) → before.observer ≡ observer_of rs k → behind.observer ≡ observer_of rs (unless_taken taken k)) →
       (s : S) (h : History) → RanThrough st hd before s h → RanThrough st hd behind s (Reset a colour ∷ h)
-  reset-follows a taken ok lived counts s h r =
+  reset_follows a taken ok lived counts s h r =
       record {
         lived = subst (λ c. GoesOn st hd before.station behind.station (Reset a c)) (sym shown) lived s h r.lived;
         counted =

@@ -12,21 +12,21 @@ use Rattle.replay.specs.Played.{RanThrough, ActPlayed, Played}
 
 module _ {S H : Type 0} (st : StrategyMeaning S) (hd : HeadMeaning H) where
   -- one act more, behind those that were played
-  played-on :
+  played_on :
       (xs : List Act) (rs : List Answered) (x : Act) (r : Answered) (before between behind : Run S H) → Played st hd before xs rs between →
       ActPlayed st hd between x r behind → Played st hd before (xs ++ x ∷ []) (rs ++ r ∷ []) behind
-  played-on [] [] x r before between behind p d = (behind, subst (λ b. ActPlayed st hd b x r behind) p d, refl)
-  played-on [] (q ∷ rs) x r before between behind p d = absurd p
-  played-on (y ∷ xs) [] x r before between behind p d = absurd p
-  played-on (y ∷ xs) (q ∷ rs) x r before between behind p d = (p.0, p.1, played-on xs rs x r p.0 between behind p.2 d)
+  played_on [] [] x r before between behind p d = (behind, subst (λ b. ActPlayed st hd b x r behind) p d, refl)
+  played_on [] (q ∷ rs) x r before between behind p d = absurd p
+  played_on (y ∷ xs) [] x r before between behind p d = absurd p
+  played_on (y ∷ xs) (q ∷ rs) x r before between behind p d = (p.0, p.1, played_on xs rs x r p.0 between behind p.2 d)
 
-  pub played-more :
+  pub played_more :
       (xs : List Act) (rs : List Answered) (i : ℕ) (e : Act) (r : Answered) (before between behind : Run S H) → i < length xs → i < length rs →
       Played st hd before (take i xs) (take i rs) between → ActPlayed st hd between (get_or xs i e) r behind →
       Played st hd before (take (i + 1) xs) (take (i + 1) (set rs i r)) behind
-  played-more xs rs i e r before between behind p q l d =
+  played_more xs rs i e r before between behind p q l d =
       subst₂ (λ x y. Played st hd before x y behind) (sym (take_more xs i e p)) (sym (take_more_set rs i r q))
-      (played-on (take i xs) (take i rs) (get_or xs i e) r before between behind l d)
+      (played_on (take i xs) (take i rs) (get_or xs i e) r before between behind l d)
 
   -- every history goes on by acts that were played
   pub goes_through :

@@ -13,10 +13,10 @@ take_by k xs false e =
     let all : min k (length xs) ≡ length xs = omega arith in
     ap (λ n. take n xs) all ∙ take_all (length xs) xs (omega arith) ∙ sym (take_all k xs (omega arith))
 
-pub kept-front :
+pub kept_front :
     (buffer copied rest : List ℕ) (bytes n : ℕ) → n ≡ min (min bytes 34) (length buffer) → copied ≡ take n buffer →
     take (min n 34) (copied ++ rest) ≡ take (min bytes 34) buffer
-kept-front buffer copied rest bytes n e f =
+kept_front buffer copied rest bytes n e f =
     let long : length copied ≡ n = ap length f ∙ length-take-le n buffer (omega arith) in
     let whole : min n 34 ≡ n = omega arith in
     ap (λ k. take k (copied ++ rest)) whole ∙ take_at copied rest n long ∙ f ∙ ap (λ k. take k buffer) e ∙ take_by (min bytes 34) buffer _ refl

@@ -15,12 +15,12 @@ none_copied (x ∷ xs) [] e = refl
 none_copied (x ∷ xs) (y ∷ ys) e = absurd (omega arith)
 
 -- something was copied: the first of it stands first
-pub first-copied :
+pub first_copied :
     {A : Type 0} (source list : List A) (d : A) → (copied_count source list 0 ≡ 0 → ⊥) → first_in (take (length list) source) ≡ Some (get_or (copied_into source list 0) 0 d)
-first-copied [] [] d some = absurd (some (omega arith))
-first-copied [] (y ∷ ys) d some = absurd (some (omega arith))
-first-copied (x ∷ xs) [] d some = absurd (some (omega arith))
-first-copied (x ∷ xs) (y ∷ ys) d some =
+first_copied [] [] d some = absurd (some (omega arith))
+first_copied [] (y ∷ ys) d some = absurd (some (omega arith))
+first_copied (x ∷ xs) [] d some = absurd (some (omega arith))
+first_copied (x ∷ xs) (y ∷ ys) d some =
     let m = min (length xs) (length ys) in
     let more : copied_count (x ∷ xs) (y ∷ ys) 0 ≡ suc m = omega arith in
     sym (ap (λ k. Some (get_or (take k (x ∷ xs) ++ drop k (y ∷ ys)) 0 d)) more)

@@ -133,10 +133,10 @@ module _ (f : Sheet) (pr : Bool) (fx : ℕ) (d : Seen) (m : Meter) (on : Bool) (
     inside_cycle : after.arrears ≡ 0 → cond d.waits d.wait_cycle after.length ≡ after.length
     inside_cycle z = same_cycle d.waits d.wait_cycle after.length (λ w. t.3 (k.free z) w ∙ sym (k.one z))
 
-    redStays-bound :
+    red_stays_bound :
         (p : Bool) → (p ≡ true → (m.age < RM f) ⊎ (after.arrears ≡ 0)) →
         (cond p (d.waited + 1) 0 ≤ max (RM f) (cond d.waits d.wait_cycle after.length - JC f - JF f)) × (cond p (d.waited + 1) 0 ≤ 115)
-    redStays-bound true h =
+    red_stays_bound true h =
         elim (h refl) [
           | inl y ↦ (omega (arith, t.1), omega (arith, t.1))
           | inr z ↦
@@ -145,11 +145,11 @@ module _ (f : Sheet) (pr : Bool) (fx : ℕ) (d : Seen) (m : Meter) (on : Bool) (
               let w = k.more z in
               (omega (arith, t.1, k.run), omega (arith, t.1, k.run, k.long))
         ]
-    redStays-bound false h = (omega arith, omega arith)
+    red_stays_bound false h = (omega arith, omega arith)
 
     red_stays_moves : (pr ≡ true → (m.age < RM f) ⊎ (after.arrears ≡ 0)) → Moves Red (red_stays after)
     red_stays_moves h =
-        let b = redStays-bound pr h in
+        let b = red_stays_bound pr h in
         let u = up pr d.waited m.age t.1 in
         goes_on Red light.Red (min (m.age + 1) 4294967295) after.arrears (omega (arith, k.owed)) b (
           red_more d.ambered m.age (min (m.age + 1) 4294967295) (T2 f) d.stretch t.0 (omega arith),
@@ -178,27 +178,27 @@ module _ (f : Sheet) (pr : Bool) (fx : ℕ) (d : Seen) (m : Meter) (on : Bool) (
           follows = red_out d.ambered m.age (RM f) (T2 f) d.stretch t.0 a;
         }
 
-    red-moves :
+    red_moves :
         (young wanted full p o : Bool) → ltb m.age (RM f) ≡ young → pr ≡ p → ltb 0 after.arrears ≡ o →
         Moves Red (red_step young wanted full (p && o) after)
-    red-moves true wanted full p o y e z = red_stays_moves (λ _. inl (ltb-true m.age (RM f) y))
-    red-moves false false full p o y e z = close_moves (ltb-false m.age (RM f) y)
-    red-moves false true true p o y e z = drain_moves (ltb-false m.age (RM f) y)
-    red-moves false true false false o y e z = red_stays_moves (λ q. absurd (never (sym e ∙ q)))
-    red-moves false true false true true y e z = open_moves (ltb-false m.age (RM f) y) (ltb-true 0 after.arrears z)
-    red-moves false true false true false y e z = red_stays_moves (λ q. inr (omega (arith, ltb-false 0 after.arrears z)))
+    red_moves true wanted full p o y e z = red_stays_moves (λ _. inl (ltb-true m.age (RM f) y))
+    red_moves false false full p o y e z = close_moves (ltb-false m.age (RM f) y)
+    red_moves false true true p o y e z = drain_moves (ltb-false m.age (RM f) y)
+    red_moves false true false false o y e z = red_stays_moves (λ q. absurd (never (sym e ∙ q)))
+    red_moves false true false true true y e z = open_moves (ltb-false m.age (RM f) y) (ltb-true 0 after.arrears z)
+    red_moves false true false true false y e z = red_stays_moves (λ q. inr (omega (arith, ltb-false 0 after.arrears z)))
 
   light_moves : (i : Conditions) → i.presence ≡ pr → (l : Light) → LightTied f d m l → Moves (colour_of_light l) (light_step f i l after)
   light_moves i e light.Flash t = flash_moves (ltb m.age (JC f)) refl t
   light_moves i e light.Amber t = amber_moves (ltb m.age (JF f)) refl t
   light_moves i e light.Red t =
-      red-moves t (ltb m.age (RM f)) i.wanted i.full i.presence (ltb 0 after.arrears) refl (sym e) refl
+      red_moves t (ltb m.age (RM f)) i.wanted i.full i.presence (ltb 0 after.arrears) refl (sym e) refl
 
 -- a second of a metering station
-pub meters-go :
+pub meters_go :
     (f : Sheet) (i : Conditions) → 4 ≤ i.length → i.length ≤ 120 → (d : Seen) (m : Meter) →
     d.colour ≡ colour_of_light m.light → d.inside ≡ true → MeterTied f d m →
     Leads f false d (grown false i.presence i.length d (metered f i m)) (metered f i m)
-meters-go f i lo hi d m e1 e2 t =
+meters_go f i lo hi d m e1 e2 t =
     at_all (λ e. Leads f false e (grown false i.presence i.length e (metered f i m)) (metered f i m)) d e1 e2 t.metering t.cycle t.lasted
     (light_moves f i.presence i.length d m (runs m) (ticks i.length lo hi d m t.owed t.run t.long (runs m) refl) i refl m.light t.light)

@@ -153,12 +153,12 @@ module _ {S : Type 0} (st : StrategyMeaning S) (f : Sheet) (s : S) where
     good : Good f (seen (log f st s h)) m.stage
 
   -- a close, or none, tells the strategy
-  closing-told :
+  closing_told :
       (minute : ℕ) (ss : List loops.Second) (cs : List Close) (short : Bool) →
       state_after st s (cond short cs (record { minute = minute % 10080; measure = loops.period_measure (loop_figures f) ss } ∷ cs)) ≡
       told_at st (state_after st s cs) (minute % 10080) (closed_by (not short) f ss)
-  closing-told minute ss cs true = refl
-  closing-told minute ss cs false = refl
+  closing_told minute ss cs true = refl
+  closing_told minute ss cs false = refl
 
   until_same : (ss : List loops.Second) (short : Bool) → cond short ss [] ≡ cond (not short) [] ss
   until_same ss true = refl
@@ -179,7 +179,7 @@ module _ {S : Type 0} (st : StrategyMeaning S) (f : Sheet) (s : S) where
     told_same : state_after st s (closing f g.minute (since_close f h ++ g.lanes ∷ []) (closes f h)) ≡ strategy_now st f n g
     told_same =
         ap (λ ss. state_after st s (closing f g.minute ss (closes f h))) lists_same ∙
-        closing-told g.minute given (closes f h) (ltb (length given) (whole_period f)) ∙
+        closing_told g.minute given (closes f h) (ltb (length given) (whole_period f)) ∙
         (λ i. told_at st (v.strategy i) (g.minute % 10080) (closed_by (sym (whole_same f given) i) f given))
 
     length_fixed_lem : (a : Answer) (c : Colour) → length_fixed f st s (Second g a c ∷ h) ≡ (conditions st f n g).length
@@ -217,10 +217,10 @@ module _ {S : Type 0} (st : StrategyMeaning S) (f : Sheet) (s : S) where
     stands_same true = refl
     stands_same false = v.stands ∙ sym (still f (conditions st f n g) n.stage)
 
-    second-inv :
+    second_inv :
         (o : Option Trip) →
         Inv (Second g (answer_by st f n g o) (head_by st f n g (is_some o)) ∷ h) (after_by st f n g (is_some o))
-    second-inv o =
+    second_inv o =
         record {
           strategy = told_same;
           readings = readings_same;
@@ -234,53 +234,53 @@ module _ {S : Type 0} (st : StrategyMeaning S) (f : Sheet) (s : S) where
         }
 
   -- the centre's cycle after a line: taken or refused, in the observer's words and in the station's
-  line-centre :
+  line_centre :
       (o : Result Order OrderFault) (r : Result (List ℕ) Refused) (c : Command) →
       cond (is_ok r) (cycle_by_line o c.centre_cycle) c.centre_cycle ≡ (obeyed o r c).centre_cycle
-  line-centre (Err e) (Err x) c = refl
-  line-centre (Err e) (Ok x) c = refl
-  line-centre (Ok order.Central) (Err x) c = refl
-  line-centre (Ok order.Central) (Ok x) c = refl
-  line-centre (Ok order.Local) (Err x) c = refl
-  line-centre (Ok order.Local) (Ok x) c = refl
-  line-centre (Ok (order.Cycle n)) (Err x) c = refl
-  line-centre (Ok (order.Cycle n)) (Ok x) c = refl
-  line-centre (Ok order.Off) (Err x) c = refl
-  line-centre (Ok order.Off) (Ok x) c = refl
-  line-centre (Ok order.Status) (Err x) c = refl
-  line-centre (Ok order.Status) (Ok x) c = refl
-  line-centre (Ok order.Cycles) (Err x) c = refl
-  line-centre (Ok order.Cycles) (Ok x) c = refl
+  line_centre (Err e) (Err x) c = refl
+  line_centre (Err e) (Ok x) c = refl
+  line_centre (Ok order.Central) (Err x) c = refl
+  line_centre (Ok order.Central) (Ok x) c = refl
+  line_centre (Ok order.Local) (Err x) c = refl
+  line_centre (Ok order.Local) (Ok x) c = refl
+  line_centre (Ok (order.Cycle n)) (Err x) c = refl
+  line_centre (Ok (order.Cycle n)) (Ok x) c = refl
+  line_centre (Ok order.Off) (Err x) c = refl
+  line_centre (Ok order.Off) (Ok x) c = refl
+  line_centre (Ok order.Status) (Err x) c = refl
+  line_centre (Ok order.Status) (Ok x) c = refl
+  line_centre (Ok order.Cycles) (Err x) c = refl
+  line_centre (Ok order.Cycles) (Ok x) c = refl
 
-  line-within :
+  line_within :
       (o : Result Order OrderFault) (r : Result (List ℕ) Refused) (c : Command) → ((n : ℕ) → o ≡ Ok (order.Cycle n) → (4 ≤ n) × (n ≤ 120)) →
       Within c.centre_cycle → Within (obeyed o r c).centre_cycle
-  line-within (Err e) (Err x) c q w = w
-  line-within (Err e) (Ok x) c q w = w
-  line-within (Ok order.Central) (Err x) c q w = w
-  line-within (Ok order.Central) (Ok x) c q w = w
-  line-within (Ok order.Local) (Err x) c q w = w
-  line-within (Ok order.Local) (Ok x) c q w = tt
-  line-within (Ok (order.Cycle n)) (Err x) c q w = w
-  line-within (Ok (order.Cycle n)) (Ok x) c q w = q n refl
-  line-within (Ok order.Off) (Err x) c q w = w
-  line-within (Ok order.Off) (Ok x) c q w = w
-  line-within (Ok order.Status) (Err x) c q w = w
-  line-within (Ok order.Status) (Ok x) c q w = w
-  line-within (Ok order.Cycles) (Err x) c q w = w
-  line-within (Ok order.Cycles) (Ok x) c q w = w
+  line_within (Err e) (Err x) c q w = w
+  line_within (Err e) (Ok x) c q w = w
+  line_within (Ok order.Central) (Err x) c q w = w
+  line_within (Ok order.Central) (Ok x) c q w = w
+  line_within (Ok order.Local) (Err x) c q w = w
+  line_within (Ok order.Local) (Ok x) c q w = tt
+  line_within (Ok (order.Cycle n)) (Err x) c q w = w
+  line_within (Ok (order.Cycle n)) (Ok x) c q w = q n refl
+  line_within (Ok order.Off) (Err x) c q w = w
+  line_within (Ok order.Off) (Ok x) c q w = w
+  line_within (Ok order.Status) (Err x) c q w = w
+  line_within (Ok order.Status) (Ok x) c q w = w
+  line_within (Ok order.Cycles) (Err x) c q w = w
+  line_within (Ok order.Cycles) (Ok x) c q w = w
 
-  line-inv :
+  line_inv :
       (h : History) (n : Model S) (line before behind : List ℕ) (c : Colour) → Inv h n →
       Inv (Line line before behind (line_answer f n line (length before)) c ∷ h) (after_line f n line (length before))
-  line-inv h n line before behind c v =
+  line_inv h n line before behind c v =
       record {
         strategy = v.strategy;
         readings = v.readings;
         centre =
             ap (λ k. cond (is_ok (line_answer f n line (length before))) (cycle_by_line (order_of line) k) k) v.centre ∙
-            line-centre (order_of line) (line_answer f n line (length before)) n.command;
-        within = line-within (order_of line) (line_answer f n line (length before)) n.command (cycle_order_within line) v.within;
+            line_centre (order_of line) (line_answer f n line (length before)) n.command;
+        within = line_within (order_of line) (line_answer f n line (length before)) n.command (cycle_order_within line) v.within;
         head = v.head;
         cut = v.cut;
         stands = v.stands;
@@ -288,10 +288,10 @@ module _ {S : Type 0} (st : StrategyMeaning S) (f : Sheet) (s : S) where
         good = v.good;
       }
 
-  reset-inv :
+  reset_inv :
       (h : History) (n : Model S) (t : Bool) (c : Colour) → is_tripped n.stage ≡ t → Inv h n →
       Inv (Reset (cond t (Ok tt) (Err refused.NotTripped)) c ∷ h) (cond t (reset_taken n) n)
-  reset-inv h n true c e v =
+  reset_inv h n true c e v =
       let r = v.good in
       record {
         strategy = v.strategy;
@@ -311,7 +311,7 @@ module _ {S : Type 0} (st : StrategyMeaning S) (f : Sheet) (s : S) where
               tied = tt;
             };
       }
-  reset-inv h n false c e v =
+  reset_inv h n false c e v =
       record {
         strategy = v.strategy;
         readings = v.readings;
@@ -343,17 +343,17 @@ module _ {S : Type 0} (st : StrategyMeaning S) (f : Sheet) (s : S) where
   inv (Second g a c ∷ h) m l =
       let v = inv h l.0 l.1 in
       subst₃ (λ b k x. Inv (Second g b k ∷ h) x) (sym l.3) (sym (l.4 ∙ ap (λ x. x.colour) l.2)) (sym l.2)
-      (second-inv h l.0 g v (trip_now st f l.0 g))
+      (second_inv h l.0 g v (trip_now st f l.0 g))
   inv (Line line before behind r c ∷ h) m l =
-      subst₂ (λ b x. Inv (Line line before behind b c ∷ h) x) (sym l.3) (sym l.2) (line-inv h l.0 line before behind c (inv h l.0 l.1))
+      subst₂ (λ b x. Inv (Line line before behind b c ∷ h) x) (sym l.3) (sym l.2) (line_inv h l.0 line before behind c (inv h l.0 l.1))
   inv (Reset r c ∷ h) m l =
-      subst₂ (λ b x. Inv (Reset b c ∷ h) x) (sym l.3) (sym l.2) (reset-inv h l.0 (is_tripped l.0.stage) c refl (inv h l.0 l.1))
+      subst₂ (λ b x. Inv (Reset b c ∷ h) x) (sym l.3) (sym l.2) (reset_inv h l.0 (is_tripped l.0.stage) c refl (inv h l.0 l.1))
 
   -- what the newest row owes, at the second's own answer
-  second-follows :
+  second_follows :
       (g : Given) (h : History) (n : Model S) → WentThrough st f s h n →
       Succession f (log f st s (Second g (answer st f n g) (after st f n g).colour ∷ h))
-  second-follows g h n l =
+  second_follows g h n l =
       (leads h n g (inv h n l) (answer st f n g) (after st f n g).colour (is_some (trip_now st f n g))).follows
 
   dark_now : (h : History) (m : Model S) → reset_since h ≡ false → Inv h m → Darkness (log f st s h)
@@ -367,7 +367,7 @@ module _ {S : Type 0} (st : StrategyMeaning S) (f : Sheet) (s : S) where
       let colour : c ≡ (after st f l.0 g).colour = l.4 ∙ ap (λ x. x.colour) l.2 in
       record {
         succession = (
-          subst₂ (λ b k. Succession f (log f st s (Second g b k ∷ h))) (sym l.3) (sym colour) (second-follows g h l.0 l.1),
+          subst₂ (λ b k. Succession f (log f st s (Second g b k ∷ h))) (sym l.3) (sym colour) (second_follows g h l.0 l.1),
           r.succession,
         );
         darkness = (dark_now (Second g a c ∷ h) m refl v, r.darkness);

@@ -67,10 +67,10 @@ abbrev pub grown : (trip presence : Bool) → ℕ → Seen → Stage → Seen
 grown t pr fixed d s =
     grown_by (not t && (in_metering (phase_of s) || d.inside)) (d.metering && ltb d.lasted d.cycle) (colour_of s) (in_metering (phase_of s)) pr fixed d
 
-pub seen-row :
+pub seen_row :
     (t pr reset : Bool) (fixed : ℕ) (rs : Log) (s : Stage) →
     seen (row (colour_of s) (phase_of s) t pr reset fixed rs ∷ rs) ≡ grown t pr fixed (seen rs) s
-seen-row t pr reset fixed rs s = refl
+seen_row t pr reset fixed rs s = refl
 
 -- the invariant between what is seen and the stage
 abbrev pub LightTied : Sheet → Seen → Meter → Light → Type 0

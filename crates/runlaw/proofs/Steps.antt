@@ -15,7 +15,7 @@ use Rattle.control.specs.Metering.{light_step, flash_step, amber_step, red_step,
 use Rattle.control.specs.Steps.{stepped}
 use Rattle.runlaw.specs.Log.{in_metering}
 use Rattle.runlaw.specs.RunLaw.{MayFollow}
-use Rattle.runlaw.proofs.Metering.{meters-go}
+use Rattle.runlaw.proofs.Metering.{meters_go}
 use Rattle.runlaw.proofs.Seen.{Seen, grown, grown_by, put, put_all, at, at_all, Good, Leads, Tied, MeterTied, LightTied}
 
 never : false ≡ true → ⊥
@@ -64,12 +64,12 @@ module _ (f : Sheet) (i : Conditions) (lo : 4 ≤ i.length) (hi : i.length ≤ 1
   flash_goes t true e1 e2 = calm FlashingAmber (stage.OpeningFlash (t + 1)) refl e1 e2 tt tt
   flash_goes t false e1 e2 = calm FlashingAmber (stage.OpeningAmber 1) refl e1 e2 (refl, refl, omega arith) tt
 
-  amber-goes :
+  amber_goes :
       (t : ℕ) (v : Bool) → ltb t 5 ≡ v → d.colour ≡ FixedAmber → d.inside ≡ false → Tied f d (stage.OpeningAmber t) →
       Goes (cond v (stage.OpeningAmber (t + 1)) (stage.OpeningRed 1)) d
-  amber-goes t true e e1 e2 ti =
+  amber_goes t true e e1 e2 ti =
       calm FixedAmber (stage.OpeningAmber (t + 1)) refl e1 e2 (omega (arith, ti.0), ti.1, omega (arith, ltb-true t 5 e)) tt
-  amber-goes t false e e1 e2 ti =
+  amber_goes t false e e1 e2 ti =
       calm FixedAmber (stage.OpeningRed 1) refl e1 e2 (refl, refl, refl, refl)
       (subst (λ b. d.stretch ≡ cond b (JF f) 5) (sym ti.1) (omega (arith, ti.0, ti.2, ltb-false t 5 e)))
 
@@ -116,16 +116,16 @@ module _ (f : Sheet) (i : Conditions) (lo : 4 ≤ i.length) (hi : i.length ≤ 1
       let z : ⊥ = omega arith in
       absurd z
 
-  red-goes :
+  red_goes :
       (t : ℕ) (v w : Bool) → ltb t (T2 f) ≡ v → d.colour ≡ Red → d.inside ≡ false → d.openings ≤ d.begun → Tied f d (stage.OpeningRed t) →
       Goes (cond v (stage.OpeningRed (t + 1)) (cond w (metered f i started) (stage.Closing 1))) d
-  red-goes t true w e e1 e2 pa ti =
+  red_goes t true w e e1 e2 pa ti =
       calm Red (stage.OpeningRed (t + 1)) refl e1 e2 (omega (arith, ti.0), ti.1, refl, refl) tt
-  red-goes t false true e e1 e2 pa ti =
+  red_goes t false true e e1 e2 pa ti =
       let l = ltb-false t (T2 f) e in
       at_all (Goes (metered f i started)) d e1 e2 ti.2 refl refl
       (enters (ltb 0 (RM f)) i.wanted i.full (i.presence && true) refl pa (refl, ti.1, ti.2, ti.3) (omega (arith, ti.0)))
-  red-goes t false false e e1 e2 pa ti =
+  red_goes t false false e e1 e2 pa ti =
       let l = ltb-false t (T2 f) e in
       calm Red (stage.Closing 1) refl e1 e2 tt (subst (λ b. cond b (RM f) (T2 f) ≤ d.stretch) (sym ti.1) (omega (arith, ti.0)))
 
@@ -133,9 +133,9 @@ module _ (f : Sheet) (i : Conditions) (lo : 4 ≤ i.length) (hi : i.length ≤ 1
   pub goes : (s : Stage) → Good f d s → Goes (stepped f i s) d
   goes stage.Standby g = rest_goes i.wanted g.colour g.inside
   goes (stage.OpeningFlash t) g = flash_goes t (ltb t (T1 f)) g.colour g.inside
-  goes (stage.OpeningAmber t) g = amber-goes t (ltb t 5) refl g.colour g.inside g.tied
-  goes (stage.OpeningRed t) g = red-goes t (ltb t (T2 f)) i.wanted refl g.colour g.inside g.paced g.tied
-  goes (stage.Metering m) g = meters-go f i lo hi d m g.colour g.inside g.tied
+  goes (stage.OpeningAmber t) g = amber_goes t (ltb t 5) refl g.colour g.inside g.tied
+  goes (stage.OpeningRed t) g = red_goes t (ltb t (T2 f)) i.wanted refl g.colour g.inside g.paced g.tied
+  goes (stage.Metering m) g = meters_go f i lo hi d m g.colour g.inside g.tied
   goes stage.Draining g = drains_goes i.wanted i.cleared g.colour g.inside
   goes (stage.Closing t) g = closes_goes t (ltb t (T3 f)) g.colour g.inside
   goes stage.Tripped g = trips_goes g.colour g.inside

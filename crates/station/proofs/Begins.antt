@@ -29,19 +29,19 @@ metered_same f c n m =
     let z = cond (not (runs m)) n 0 in
     ap (light_step f (with_length c z) m.light) (clock_same (runs m) n m) ∙ light_same f c z n m.light (clocked_by (runs m) n m)
 
-red-same :
+red_same :
     (f : Sheet) (c : Conditions) (n t : ℕ) (young wanted : Bool) →
     cond young (stage.OpeningRed (t + 1)) (cond wanted (metered f (with_length c (cond (not young && wanted) n 0)) started) (stage.Closing 1)) ≡
     cond young (stage.OpeningRed (t + 1)) (cond wanted (metered f (with_length c n) started) (stage.Closing 1))
-red-same f c n t true wanted = refl
-red-same f c n t false true = refl
-red-same f c n t false false = refl
+red_same f c n t true wanted = refl
+red_same f c n t false true = refl
+red_same f c n t false false = refl
 
 pub length_unused : (f : Sheet) (c : Conditions) (n : ℕ) (s : Stage) → stepped f (with_length c (cond (begins f c.wanted s) n 0)) s ≡ stepped f (with_length c n) s
 length_unused f c n stage.Standby = refl
 length_unused f c n (stage.OpeningFlash t) = refl
 length_unused f c n (stage.OpeningAmber t) = refl
-length_unused f c n (stage.OpeningRed t) = red-same f c n t (ltb t (T2 f)) c.wanted
+length_unused f c n (stage.OpeningRed t) = red_same f c n t (ltb t (T2 f)) c.wanted
 length_unused f c n (stage.Metering m) = metered_same f c n m
 length_unused f c n stage.Draining = refl
 length_unused f c n (stage.Closing t) = refl

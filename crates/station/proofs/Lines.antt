@@ -35,11 +35,11 @@ refused_by_lem : (a : Result (List ℕ) Refused) (o : Order) (e : Refused) → E
 refused_by_lem (Ok reply) o e h = absurd (let z : ◌≡◌ {A = ℕ} 0 1 = cc in omega arith)
 refused_by_lem (Err x) o e h = cc
 
-refused-is :
+refused_is :
     (f : Sheet) (s : Stage) (mode : Mode) (room : ℕ) (v : Result Order OrderFault) (e : Refused) →
     Err e ≡ taken_with v (answer_to f s mode room v) → answer_to f s mode room v ≡ Err e
-refused-is f s mode room (Err x) e h = cc
-refused-is f s mode room (Ok o) e h = refused_by_lem (answer_to f s mode room (Ok o)) o e h
+refused_is f s mode room (Err x) e h = cc
+refused_is f s mode room (Ok o) e h = refused_by_lem (answer_to f s mode room (Ok o)) o e h
 
 -- a refused line is not obeyed
 not_obeyed : (v : Result Order OrderFault) (e : Refused) (c : Command) → obeyed v (Err e) c ≡ c
@@ -67,7 +67,7 @@ module _ {S H : Type 0} (st : StrategyMeaning S) (hd : HeadMeaning H) (t : Stati
   pub line_refused :
       (e : Refused) → Err e ≡ taken_with (order_of line) answered → buffer' ≡ buffer_after answered buffer → LineDone st hd t line buffer t buffer' (Err e)
   line_refused e refused bytes =
-      let is = refused-is t.sheet t.stage t.command.mode (length buffer) (order_of line) e refused in
+      let is = refused_is t.sheet t.stage t.command.mode (length buffer) (order_of line) e refused in
       record {
         answers = λ ss. ap bytes_of (sym is);
         replies = λ ss. bytes;
@@ -83,10 +83,10 @@ module _ {S H : Type 0} (st : StrategyMeaning S) (hd : HeadMeaning H) (t : Stati
   line_written behind r done = done.replies [] ∙ ap (λ a. buffer_after a buffer) (sym (line_said behind r done))
 
   -- every history goes on by the line
-  pub line-lived :
+  pub line_lived :
       (behind : Station S H) (r : Result ℕ Refused) → LineDone st hd t line buffer behind buffer' r → (s : S) (h : History) →
       Lived st hd t s h → Lived st hd behind s (Line line buffer buffer' (replied r buffer') (hd.colour behind.head) ∷ h)
-  line-lived behind r done s h l =
+  line_lived behind r done s h l =
       let ss = l.0 in
       let at : Station S H → Type 0 = λ x. Lived st hd x s (Line line buffer buffer' (replied r buffer') (hd.colour x.head) ∷ h) in
       subst at (sym (done.becomes ss))

@@ -7,9 +7,9 @@ use Rattle.strategy.specs.declared.hourly.HourlyPlan.{HourlyPlan}
 use Rattle.strategy.specs.declared.limiter.Limiter.{Limiter}
 use Rattle.strategy.specs.Drawn.{Cycles}
 
-pub alinea-same :
+pub alinea_same :
     {x y : Alinea} → x.flow_tenths ≡ y.flow_tenths → x.lowest_flow ≡ y.lowest_flow → x.highest_flow ≡ y.highest_flow → x.gain ≡ y.gain → x.critical_occupancy ≡ y.critical_occupancy → x ≡ y
-alinea-same {x = x} {y = y} q l h g c = λ i.
+alinea_same {x = x} {y = y} q l h g c = λ i.
     record {
       flow_tenths = q i;
       lowest_flow = l i;

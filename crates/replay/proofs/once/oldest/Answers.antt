@@ -1,6 +1,6 @@
 use Rattle.std.proofs.Common.{get_or, Some, sym, ap, ◌∙◌}
 use Rattle.records.specs.Rings.{kept_by}
-use Rattle.replay.proofs.Rings.{none_copied, first-copied}
+use Rattle.replay.proofs.Rings.{none_copied, first_copied}
 use Rattle.replay.proofs.once.oldest.Goals as goal
 
 pub returns-then-copy_to-eq0 : goal.returns-then-copy_to-eq0
@@ -10,4 +10,4 @@ pub returns-else-copy_to-eq0 : goal.returns-else-copy_to-eq0
 returns-else-copy_to-eq0 g c =
     let x = c.index-list-0.result in
     ap Some (c.index-list-0.is ∙ ap (λ ys. get_or ys 0 x) c.copy_to.ensures.list) ∙
-    sym (first-copied (kept_by c.args.ring.now) c.args.list.now x (λ e. c.if-copy_to-eq0.false (c.copy_to.ensures.many ∙ e)))
+    sym (first_copied (kept_by c.args.ring.now) c.args.list.now x (λ e. c.if-copy_to-eq0.false (c.copy_to.ensures.many ∙ e)))

@@ -2,7 +2,7 @@ use Rattle.std.proofs.Common.{ap, ◌∙◌}
 use Rattle.control.specs.Lines.{buffer_after}
 use Rattle.replay.specs.declared.run.Run.{Run}
 use Rattle.replay.specs.Acts.{buffer_for, replied_in}
-use Rattle.replay.proofs.Following.{kept_of_taken, line-follows}
+use Rattle.replay.proofs.Following.{kept_of_taken, line_follows}
 use Rattle.replay.proofs.run.Run.line.Goals as goal
 
 pub returns : goal.returns
@@ -15,7 +15,7 @@ returns g c =
       played = done;
       view = c.look-view.ensures.view;
       goes_on =
-          line-follows g.S.Strategy g.H.LampHead c.args.self.now behind done.sheet c.look-view.result.colour (ap (λ v. v.colour) c.look-view.ensures.view)
+          line_follows g.S.Strategy g.H.LampHead c.args.self.now behind done.sheet c.look-view.result.colour (ap (λ v. v.colour) c.look-view.ensures.view)
           c.args.line.text.now buffer (buffer_after (replied_in r) buffer) (replied_in r) c.is_ok.result (c.is_ok.ensures.value ∙ kept_of_taken r) done.lived
           c.counted_unless-self.ensures;
     }

@@ -1,6 +1,6 @@
 use Rattle.std.proofs.Common.{◌≡◌, ◌<◌, length, take, drop, refl, subst, arith}
 use Rattle.replay.specs.Played.{Played}
-use Rattle.replay.proofs.Playing.{played-more, goes_through, rest_more}
+use Rattle.replay.proofs.Playing.{played_more, goes_through, rest_more}
 use Rattle.replay.proofs.run.Run.play.Goals as goal
 
 pub loop-i-init : goal.loop-i-init
@@ -13,7 +13,7 @@ loop-i-preserved g c =
     let p : at.i < length acts = omega (arith, c.min-count.ensures, c.loop-i-test.true) in
     let q : at.i < length at.answers = omega (arith, c.min-count.ensures, c.loop-i-test.true, at.auto.answers) in (
       rest_more at.answers c.args.answers.now at.i c.act.result at.invariant.0,
-      played-more g.S.Strategy g.H.LampHead acts at.answers at.i _ c.act.result c.args.self.now at.self c.act.new.self p q at.invariant.1 c.act.ensures,
+      played_more g.S.Strategy g.H.LampHead acts at.answers at.i _ c.act.result c.args.self.now at.self c.act.new.self p q at.invariant.1 c.act.ensures,
     )
 
 pub returns : goal.returns
