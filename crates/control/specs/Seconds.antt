@@ -9,6 +9,7 @@ use Rattle.loops.specs.Rules.{Second, period_measure}
 use Rattle.lamps.specs.declared.colour.Colour.{Colour}
 use Rattle.lamps.specs.declared.colour.Colour.TheVariants as colour
 use Rattle.lamps.specs.Orders.{colour_after}
+use Rattle.records.specs.Kept.{count_after}
 use Rattle.records.specs.declared.alarm.AlarmRecord.{AlarmRecord}
 use Rattle.records.specs.declared.period.PeriodRecord.{PeriodRecord}
 use Rattle.control.specs.declared.answer.Answer.{Answer}
@@ -28,9 +29,9 @@ use Rattle.control.specs.Phases.{colour_of, phase_of, is_standby, is_tripped, is
 use Rattle.control.specs.Steps.{stepped}
 use Rattle.control.specs.Trips.{trip_of}
 
--- a count with one more, which stops at its highest value
-abbrev pub counted : ℕ → ℕ
-counted n = min (n + 1) 4294967295
+-- a count with one more if that holds; it stops at its highest value
+abbrev pub counted_if : Bool → ℕ → ℕ
+counted_if holds n = cond holds (count_after n) n
 
 -- the minute of the week
 abbrev pub minute_of : Given → ℕ
@@ -119,20 +120,20 @@ under_at before stage.Tripped under = under
 -- the seconds shown since standby, with one of this phase; a tripped station counts on after its reset, from 0
 abbrev pub shown_after : Stage → ℕ → ℕ
 shown_after stage.Standby shown = 0
-shown_after (stage.OpeningFlash t) shown = counted shown
-shown_after (stage.OpeningAmber t) shown = counted shown
-shown_after (stage.OpeningRed t) shown = counted shown
-shown_after (stage.Metering m) shown = counted shown
-shown_after stage.Draining shown = counted shown
-shown_after (stage.Closing t) shown = counted shown
+shown_after (stage.OpeningFlash t) shown = count_after shown
+shown_after (stage.OpeningAmber t) shown = count_after shown
+shown_after (stage.OpeningRed t) shown = count_after shown
+shown_after (stage.Metering m) shown = count_after shown
+shown_after stage.Draining shown = count_after shown
+shown_after (stage.Closing t) shown = count_after shown
 shown_after stage.Tripped shown = shown
 
 -- the counts after a second of this phase, which closed a period or did not: openings are counted from the last record on
 abbrev pub counts_after : (closed : Bool) → Stage → Counts → Counts
 counts_after closed stage c =
     record {
-      seconds = counted c.seconds;
-      periods = cond closed (counted c.periods) c.periods;
+      seconds = count_after c.seconds;
+      periods = counted_if closed c.periods;
       openings = min (cond closed 0 c.openings + openings_in stage) 4294967295;
       shown = shown_after stage c.shown;
     }
@@ -216,7 +217,7 @@ module _ {S : Type 0} (st : StrategyMeaning S) (f : Sheet) (m : Model S) (g : Gi
   abbrev pub period_record : Option Measure → PeriodRecord
   period_record measure =
       record {
-        number = counted m.counts.periods;
+        number = count_after m.counts.periods;
         minute = minute_of g;
         measure = measure;
         cycle = st.cycle strategy_now;
@@ -230,7 +231,7 @@ module _ {S : Type 0} (st : StrategyMeaning S) (f : Sheet) (m : Model S) (g : Gi
   -- the alarm record of a trip, with the phase before it
   abbrev pub alarm_record : Trip → AlarmRecord
   alarm_record t =
-      record { second = counted m.counts.seconds; code = t.code; lamp = t.lamp; phase = phase_of m.stage }
+      record { second = count_after m.counts.seconds; code = t.code; lamp = t.lamp; phase = phase_of m.stage }
 
   -- the record that the second puts into the ring of alarms, if it trips
   abbrev pub alarm_put : Option AlarmRecord

@@ -1,16 +1,18 @@
 // What a second makes of the counts.
 ghost use Rattle.std.specs.Prelude.{◌≡◌, if◌then◌else◌};
-ghost use Rattle.control.specs.Seconds.{counted, opening_by, openings_in, under_at, shown_after, counts_after, is_dark};
+ghost use Rattle.records.specs.Kept.{count_after};
+ghost use Rattle.control.specs.Seconds.{counted_if, opening_by, openings_in, under_at, shown_after, counts_after, is_dark};
 
 use crate::stage::{Light, Stage};
 use crate::state::Counts;
 use lamps::colour::Colour;
+use records::putting::count_after;
 
-// A count with one more, which stops at its highest value.
-pub fn counted(count: u32) -> u32
-    ensures { result ≡ counted count }
+// A count with one more if that holds; it stops at its highest value.
+pub fn counted_if(holds: bool, count: u32) -> u32
+    ensures { result ≡ counted_if holds count }
 {
-    count.saturating_add(1)
+    if holds { count_after(count) } else { count }
 }
 
 // Is the light in the first second of a window flash?
@@ -51,7 +53,7 @@ impl Stage {
         match self {
             Stage::Standby => 0,
             Stage::Tripped => shown,
-            _ => counted(shown),
+            _ => count_after(shown),
         }
     }
 }
@@ -63,21 +65,14 @@ fn unless_closed(closed: bool, count: u32) -> u32
     if closed { 0 } else { count }
 }
 
-// A count of closes after a second.
-fn closes(closed: bool, count: u32) -> u32
-    ensures { result ≡ (if closed then counted count else count) }
-{
-    if closed { counted(count) } else { count }
-}
-
 impl Counts {
     // The counts after a second of this phase, which closed a period or did not.
     pub fn after(self, closed: bool, stage: Stage) -> Counts
         ensures { result ≡ counts_after closed stage self }
     {
         Counts {
-            seconds: counted(self.seconds),
-            periods: closes(closed, self.periods),
+            seconds: count_after(self.seconds),
+            periods: counted_if(closed, self.periods),
             openings: unless_closed(closed, self.openings).saturating_add(stage.openings()),
             shown: stage.shown(self.shown),
         }
@@ -88,8 +83,5 @@ impl Counts {
 pub fn is_dark(colour: Colour) -> bool
     ensures { result ≡ is_dark colour }
 {
-    match colour {
-        Colour::Dark => true,
-        _ => false,
-    }
+    matches!(colour, Colour::Dark)
 }

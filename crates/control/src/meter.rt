@@ -1,8 +1,9 @@
 // A second of metering: the reference clock, then the light.
-ghost use Rattle.std.specs.Prelude.{◌≡◌, false, ◌&&◌, nat_lt};
+ghost use Rattle.std.specs.Prelude.{◌≡◌, ◌+◌, false, if◌then◌else◌, ◌&&◌, nat_lt};
 ghost use Rattle.control.specs.declared.stage.Light.TheVariants.{Red};
-ghost use Rattle.control.specs.Metering.{started, runs, clocked, flash_step, amber_step, red_stays, opening, red_step, light_step, metered};
-ghost use Rattle.control.specs.Figures.{JC, JF, RM};
+ghost use Rattle.control.specs.declared.stage.Stage.TheVariants.{Metering};
+ghost use Rattle.control.specs.Metering.{started, runs, clocked, lit, red_stays, opening, red_step, light_step, metered};
+ghost use Rattle.control.specs.Figures.{RM};
 
 use crate::stage::{Conditions, Light, Meter, Stage};
 use sheet::sheet::Sheet;
@@ -49,125 +50,105 @@ impl Meter {
             }
         }
     }
-}
 
-// A second of window flash, or the first of window amber.
-fn after_flash(sheet: &Sheet, meter: Meter) -> Stage
-    ensures { result ≡ flash_step (nat_lt meter.age (JC sheet.now)) meter }
-{
-    if meter.age < sheet.figures().window_flash {
-        Stage::Metering(Meter {
-            light: Light::Flash,
-            age: meter.age + 1,
-            ..meter
-        })
-    } else {
-        Stage::Metering(Meter {
-            light: Light::Amber,
-            age: 1,
-            ..meter
-        })
+    // One second more of a light that lasts so many seconds, or the first of the next light.
+    fn lasting(self, light: Light, seconds: u32, next: Light) -> Stage
+        ensures { result ≡ Metering (if nat_lt self.age seconds then lit light (self.age + 1) self.arrears self else lit next 1 self.arrears self) }
+    {
+        if self.age < seconds {
+            Stage::Metering(Meter {
+                light,
+                age: self.age + 1,
+                ..self
+            })
+        } else {
+            Stage::Metering(Meter {
+                light: next,
+                age: 1,
+                ..self
+            })
+        }
     }
-}
 
-// A second of window amber, or the first of red.
-fn after_amber(sheet: &Sheet, meter: Meter) -> Stage
-    ensures { result ≡ amber_step (nat_lt meter.age (JF sheet.now)) meter }
-{
-    if meter.age < sheet.figures().window_amber {
-        Stage::Metering(Meter {
-            light: Light::Amber,
-            age: meter.age + 1,
-            ..meter
-        })
-    } else {
+    // Red stays, and its age grows.
+    fn red_stays(self) -> Stage
+        ensures { result ≡ red_stays self }
+    {
         Stage::Metering(Meter {
             light: Light::Red,
-            age: 1,
-            ..meter
+            age: self.age.saturating_add(1),
+            ..self
         })
     }
-}
 
-// Red stays, and its age grows.
-fn red_stays(meter: Meter) -> Stage
-    ensures { result ≡ red_stays meter }
-{
-    Stage::Metering(Meter {
-        light: Light::Red,
-        age: meter.age.saturating_add(1),
-        ..meter
-    })
-}
-
-// An opening: arrears fall by one, and a window flash begins.
-fn open_window(meter: Meter) -> Stage
-    ensures { result ≡ opening meter }
-{
-    Stage::Metering(Meter {
-        light: Light::Flash,
-        age: 1,
-        arrears: meter.arrears.saturating_sub(1),
-        ..meter
-    })
-}
-
-// Is the red younger than the minimum?
-fn is_young(sheet: &Sheet, meter: Meter) -> bool
-    ensures { result ≡ nat_lt meter.age (RM sheet.now) }
-{
-    meter.age < sheet.figures().minimum_red
-}
-
-// May a vehicle go: is one there, and is one due?
-fn may_go(presence: bool, meter: Meter) -> bool
-    ensures { result ≡ (presence && nat_lt 0 meter.arrears) }
-{
-    presence && meter.arrears > 0
-}
-
-// Red that is old enough: the first of these that holds is done.
-fn after_old_red(conditions: Conditions, meter: Meter) -> Stage
-    ensures { result ≡ red_step false conditions.wanted conditions.full (conditions.presence && nat_lt 0 meter.arrears) meter }
-{
-    if !conditions.wanted {
-        Stage::Closing(1)
-    } else if conditions.full {
-        Stage::Draining
-    } else if may_go(conditions.presence, meter) {
-        open_window(meter)
-    } else {
-        red_stays(meter)
+    // An opening: arrears fall by one, and a window flash begins.
+    fn opening(self) -> Stage
+        ensures { result ≡ opening self }
+    {
+        Stage::Metering(Meter {
+            light: Light::Flash,
+            age: 1,
+            arrears: self.arrears.saturating_sub(1),
+            ..self
+        })
     }
-}
 
-// A second of red, or what ends it.
-fn after_red(sheet: &Sheet, conditions: Conditions, meter: Meter) -> Stage
-    ensures { result ≡ light_step sheet.now conditions Red meter }
-{
-    if is_young(sheet, meter) {
-        red_stays(meter)
-    } else {
-        after_old_red(conditions, meter)
+    // Is the red younger than the minimum?
+    fn is_young(self, sheet: &Sheet) -> bool
+        ensures { result ≡ nat_lt self.age (RM sheet.now) }
+    {
+        self.age < sheet.figures().minimum_red
     }
-}
 
-// The light's second, with the clock as it is.
-fn after_light(sheet: &Sheet, conditions: Conditions, meter: Meter) -> Stage
-    ensures { result ≡ light_step sheet.now conditions meter.light meter }
-{
-    match meter.light {
-        Light::Flash => after_flash(sheet, meter),
-        Light::Amber => after_amber(sheet, meter),
-        Light::Red => after_red(sheet, conditions, meter),
+    // May a vehicle go: is one there, and is one due?
+    fn may_go(self, presence: bool) -> bool
+        ensures { result ≡ (presence && nat_lt 0 self.arrears) }
+    {
+        presence && self.arrears > 0
     }
-}
 
-impl Meter {
+    // Red that is old enough: the first of these that holds is done.
+    fn after_old_red(self, conditions: Conditions) -> Stage
+        ensures { result ≡ red_step false conditions.wanted conditions.full (conditions.presence && nat_lt 0 self.arrears) self }
+    {
+        if !conditions.wanted {
+            Stage::Closing(1)
+        } else if conditions.full {
+            Stage::Draining
+        } else if self.may_go(conditions.presence) {
+            self.opening()
+        } else {
+            self.red_stays()
+        }
+    }
+
+    // A second of red, or what ends it.
+    fn after_red(self, sheet: &Sheet, conditions: Conditions) -> Stage
+        ensures { result ≡ light_step sheet.now conditions Red self }
+    {
+        if self.is_young(sheet) {
+            self.red_stays()
+        } else {
+            self.after_old_red(conditions)
+        }
+    }
+
+    // The light's second, with the clock as it is.
+    fn after_light(self, sheet: &Sheet, conditions: Conditions) -> Stage
+        ensures { result ≡ light_step sheet.now conditions self.light self }
+    {
+        let figures = sheet.figures();
+        match self.light {
+            Light::Flash => self.lasting(Light::Flash, figures.window_flash, Light::Amber),
+            Light::Amber => self.lasting(Light::Amber, figures.window_amber, Light::Red),
+            Light::Red => self.after_red(sheet, conditions),
+        }
+    }
+
     // A metering second: the reference clock first, then the light.
     pub fn after(self, sheet: &Sheet, conditions: Conditions) -> Stage
         ensures { result ≡ metered sheet.now conditions self }
     {
-        after_light(sheet, conditions, self.clocked(conditions.length))
+        self.clocked(conditions.length).after_light(sheet, conditions)
     }
 }

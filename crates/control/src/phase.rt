@@ -66,29 +66,20 @@ impl Stage {
     pub fn is_standby(self) -> bool
         ensures { result ≡ is_standby self }
     {
-        match self {
-            Stage::Standby => true,
-            _ => false,
-        }
+        matches!(self, Stage::Standby)
     }
 
     // Is the station tripped?
     pub fn is_tripped(self) -> bool
         ensures { result ≡ is_tripped self }
     {
-        match self {
-            Stage::Tripped => true,
-            _ => false,
-        }
+        matches!(self, Stage::Tripped)
     }
 
     // Is the ramp drained?
     pub fn is_draining(self) -> bool
         ensures { result ≡ is_draining self }
     {
-        match self {
-            Stage::Draining => true,
-            _ => false,
-        }
+        matches!(self, Stage::Draining)
     }
 }
