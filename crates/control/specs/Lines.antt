@@ -41,6 +41,11 @@ refused_by tripped mode order.Off = cond tripped (Some refused.Tripped) (in_mode
 refused_by tripped mode order.Status = None
 refused_by tripped mode order.Cycles = None
 
+-- an order that nothing is against is taken
+abbrev pub unless_refused : Option Refused → Result (Unit {0}) Refused
+unless_refused (Some e) = Err e
+unless_refused None = Ok tt
+
 -- what an order that is taken makes of mode, wanted and the centre's cycle
 abbrev pub commanded : Order → Command → Command
 commanded order.Central c = record { mode = Central; wanted = c.wanted; centre_cycle = c.centre_cycle }

@@ -1,5 +1,6 @@
 -- One second: a definition for each of its rules, and the second as their composition.
 use Rattle.std.specs.Prelude.{ℕ, ◌+◌, ◌*◌, ◌%◌, min, Bool, true, false, cond, not, ◌&&◌, ◌||◌, List, [], ◌∷◌, ◌++◌, length, is_some, Some, None, Option, ◌==◌, nat_le, nat_lt}
+use Rattle.std.specs.List.{list_any}
 use Rattle.std.specs.Option.{option_map}
 use Rattle.sheet.specs.declared.sheet.Sheet.{Sheet}
 use Rattle.sheet.specs.declared.calendar.MinuteRange.{MinuteRange}
@@ -77,8 +78,7 @@ in_range r minute = nat_le r.from minute && nat_lt minute r.to
 
 -- the minute lies in one of the calendar's ranges
 abbrev pub in_calendar : List MinuteRange → ℕ → Bool
-in_calendar [] minute = false
-in_calendar (r ∷ rs) minute = in_range r minute || in_calendar rs minute
+in_calendar rs minute = list_any (λ r. in_range r minute) rs
 
 -- in local mode: in the calendar, or outside standby as long as the shortest service was not shown; in central mode lines set it
 abbrev pub wanted_after : Sheet → Mode → (wanted standby inside : Bool) → (shown : ℕ) → Bool

@@ -1,7 +1,7 @@
 // What orders make of a station, and why they are refused.
 ghost use Rattle.std.specs.Prelude.{◌≡◌};
 ghost use Rattle.control.specs.declared.answer.Refused.TheVariants.{Order as OrderRefused};
-ghost use Rattle.control.specs.Lines.{telling_of, in_mode, refused_by, commanded, status_letter};
+ghost use Rattle.control.specs.Lines.{telling_of, in_mode, refused_by, unless_refused, commanded, status_letter};
 
 use crate::answer::Refused;
 use crate::stage::Stage;
@@ -44,26 +44,25 @@ impl Refused {
     }
 }
 
-// Why an order of the centre is refused in this mode, if it is.
-fn in_mode(mode: Mode) -> Option<Refused>
-    ensures { result ≡ in_mode mode }
+// Takes an order of the centre in this mode, or says why it is refused.
+fn check_mode(mode: Mode) -> Result<(), Refused>
+    ensures { result ≡ unless_refused (in_mode mode) }
 {
     match mode {
-        Mode::Local => Some(Refused::LocalMode),
-        Mode::Central => None,
+        Mode::Local => Err(Refused::LocalMode),
+        Mode::Central => Ok(()),
     }
 }
 
-// Why an order is refused, if it is.
-pub fn refused_by(tripped: bool, mode: Mode, order: Order) -> Option<Refused>
-    ensures { result ≡ refused_by tripped mode order }
+// Takes an order, or says why it is refused.
+pub fn check_order(tripped: bool, mode: Mode, order: Order) -> Result<(), Refused>
+    ensures { result ≡ unless_refused (refused_by tripped mode order) }
 {
     match order {
-        Order::Central | Order::Local if tripped => Some(Refused::Tripped),
-        Order::Central | Order::Local => None,
-        Order::Cycle(_) | Order::Off if tripped => Some(Refused::Tripped),
-        Order::Cycle(_) | Order::Off => in_mode(mode),
-        Order::Status | Order::Cycles => None,
+        Order::Status | Order::Cycles => Ok(()),
+        _ if tripped => Err(Refused::Tripped),
+        Order::Central | Order::Local => Ok(()),
+        Order::Cycle(_) | Order::Off => check_mode(mode),
     }
 }
 

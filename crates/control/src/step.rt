@@ -41,43 +41,20 @@ impl Stage {
     {
         let figures = sheet.figures();
         match self {
-            Stage::Standby => {
-                if conditions.wanted {
-                    Stage::OpeningFlash(1)
-                } else {
-                    Stage::Standby
-                }
+            Stage::Standby if conditions.wanted => Stage::OpeningFlash(1),
+            Stage::Standby => Stage::Standby,
+            Stage::OpeningFlash(shown) if shown < figures.opening_flash => {
+                Stage::OpeningFlash(shown + 1)
             }
-            Stage::OpeningFlash(shown) => {
-                if shown < figures.opening_flash {
-                    Stage::OpeningFlash(shown + 1)
-                } else {
-                    Stage::OpeningAmber(1)
-                }
-            }
-            Stage::OpeningAmber(shown) => {
-                if shown < OPENING_AMBER {
-                    Stage::OpeningAmber(shown + 1)
-                } else {
-                    Stage::OpeningRed(1)
-                }
-            }
-            Stage::OpeningRed(shown) => {
-                if shown < figures.opening_red {
-                    Stage::OpeningRed(shown + 1)
-                } else {
-                    after_opening_red(sheet, conditions)
-                }
-            }
+            Stage::OpeningFlash(_) => Stage::OpeningAmber(1),
+            Stage::OpeningAmber(shown) if shown < OPENING_AMBER => Stage::OpeningAmber(shown + 1),
+            Stage::OpeningAmber(_) => Stage::OpeningRed(1),
+            Stage::OpeningRed(shown) if shown < figures.opening_red => Stage::OpeningRed(shown + 1),
+            Stage::OpeningRed(_) => after_opening_red(sheet, conditions),
             Stage::Metering(meter) => meter.after(sheet, conditions),
             Stage::Draining => after_draining(conditions),
-            Stage::Closing(shown) => {
-                if shown < figures.closing_flash {
-                    Stage::Closing(shown + 1)
-                } else {
-                    Stage::Standby
-                }
-            }
+            Stage::Closing(shown) if shown < figures.closing_flash => Stage::Closing(shown + 1),
+            Stage::Closing(_) => Stage::Standby,
             Stage::Tripped => Stage::Tripped,
         }
     }

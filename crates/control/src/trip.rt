@@ -50,23 +50,14 @@ fn trip_with(lit: u32, ordered: Option<Lamp>, unwanted: Lamp) -> Trip
     ensures { result ≡ trip_with lit ordered unwanted }
 {
     match ordered {
-        None => Trip {
+        Some(lamp) if !is_in(lamp, lit) => Trip {
+            code: TripCode::NotLit,
+            lamp,
+        },
+        _ => Trip {
             code: TripCode::Unwanted,
             lamp: unwanted,
         },
-        Some(lamp) => {
-            if is_in(lamp, lit) {
-                Trip {
-                    code: TripCode::Unwanted,
-                    lamp: unwanted,
-                }
-            } else {
-                Trip {
-                    code: TripCode::NotLit,
-                    lamp,
-                }
-            }
-        }
     }
 }
 

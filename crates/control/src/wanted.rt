@@ -3,7 +3,7 @@ ghost use Rattle.std.specs.Prelude.{◌≡◌, ◌&&◌};
 ghost use Rattle.control.specs.Figures.{service_seconds};
 ghost use Rattle.control.specs.Seconds.{in_range, in_calendar, wanted_after};
 
-use crate::state::Mode;
+use crate::state::{Command, Mode};
 use sheet::calendar::MinuteRange;
 use sheet::sheet::Sheet;
 
@@ -18,12 +18,7 @@ fn in_range(range: MinuteRange, minute: u32) -> bool
 pub fn in_calendar(calendar: &[MinuteRange], minute: u32) -> bool
     ensures { result ≡ in_calendar calendar.now minute }
 {
-    for range in calendar {
-        if in_range(*range, minute) {
-            return true;
-        }
-    }
-    false
+    calendar.iter().any(|range| in_range(*range, minute))
 }
 
 // The seconds of the shortest service.
@@ -33,20 +28,15 @@ fn service_seconds(sheet: &Sheet) -> u32
     60 * sheet.figures().service_minutes
 }
 
-// Whether metering is wanted in this second, from what was wanted before, whether the station stands by, whether the
-// minute is in the calendar, and the seconds shown since standby.
-pub fn wanted_after(
-    sheet: &Sheet,
-    mode: Mode,
-    wanted: bool,
-    standby: bool,
-    inside: bool,
-    shown: u32,
-) -> bool
-    ensures { result ≡ wanted_after sheet.now mode wanted standby inside shown }
-{
-    match mode {
-        Mode::Local => inside || (!standby && shown < service_seconds(sheet)),
-        Mode::Central => wanted,
+impl Command {
+    // Whether metering is wanted in this second, from whether the station stands by, whether the minute is in the calendar,
+    // and the seconds shown since standby.
+    pub fn wanted_after(self, sheet: &Sheet, standby: bool, inside: bool, shown: u32) -> bool
+        ensures { result ≡ wanted_after sheet.now self.mode self.wanted standby inside shown }
+    {
+        match self.mode {
+            Mode::Local => inside || (!standby && shown < service_seconds(sheet)),
+            Mode::Central => self.wanted,
+        }
     }
 }
