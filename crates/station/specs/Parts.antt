@@ -11,7 +11,6 @@ use Rattle.records.specs.Kept.{count_after, last_of}
 use Rattle.records.specs.Rings.{kept_by, room_by}
 use Rattle.control.specs.declared.answer.Trip.{Trip}
 use Rattle.control.specs.declared.state.Counts.{Counts}
-use Rattle.control.specs.Seconds.{counted}
 
 abbrev pub closed_of : Tallied → Option (Option Measure)
 closed_of Running = None
@@ -20,11 +19,11 @@ closed_of (Closed m) = Some m
 -- the period record: its number, minute, measure or none, the strategy's cycle, and the openings since the last record
 abbrev pub period_record_of : (minute cycle : ℕ) → Counts → Option Measure → PeriodRecord
 period_record_of minute cycle c measure =
-    record { number = counted c.periods; minute = minute; measure = measure; cycle = cycle; openings = c.openings }
+    record { number = count_after c.periods; minute = minute; measure = measure; cycle = cycle; openings = c.openings }
 
 -- the alarm record: the second number, code and lamp of the trip, and the phase before
 abbrev pub alarm_record_of : Counts → Phase → Trip → AlarmRecord
-alarm_record_of c phase t = record { second = counted c.seconds; code = t.code; lamp = t.lamp; phase = phase }
+alarm_record_of c phase t = record { second = count_after c.seconds; code = t.code; lamp = t.lamp; phase = phase }
 
 -- what a ring keeps after a record is put: the last so many of what it kept and the record
 abbrev pub kept_after : {A : Type 0} → (room : ℕ) → List A → Option A → List A

@@ -4,13 +4,12 @@ ghost use Rattle.std.specs.Option.{option_map};
 ghost use Rattle.lamps.specs.Orders.{colour_after};
 ghost use Rattle.lamps.specs.declared.colour.Colour.TheVariants.{Dark};
 ghost use Rattle.control.specs.declared.stage.Stage.TheVariants.{Tripped};
-ghost use Rattle.control.specs.Seconds.{counted, length_fixed, told_at};
+ghost use Rattle.control.specs.Seconds.{length_fixed, told_at};
 ghost use Rattle.control.specs.Steps.{stepped};
 ghost use Rattle.control.specs.Trips.{trip_of};
 ghost use Rattle.station.specs.Parts.{closed_of, period_record_of, alarm_record_of, PutInto};
 
 use control::answer::Trip;
-use control::counts::counted;
 use control::stage::{Conditions, Stage};
 use control::state::Counts;
 use control::trip::trip_of;
@@ -20,6 +19,7 @@ use loops::tally::Tallied;
 use records::alarm::AlarmRecord;
 use records::period::PeriodRecord;
 use records::phase::Phase;
+use records::putting::count_after;
 use records::ring::Ring;
 use sheet::sheet::Sheet;
 use strategy::measure::Measure;
@@ -52,34 +52,28 @@ pub(crate) fn tell_close<S: Strategy>(
     ensures told { strategy.new ≡ told_at S.Strategy strategy.old minute closed }
     ensures record { result ≡ option_map (period_record_of minute (S.Strategy.cycle (told_at S.Strategy strategy.old minute closed)) counts) closed }
 {
-    match closed {
-        None => None,
-        Some(measure) => {
-            strategy.tell(minute, measure);
-            Some(PeriodRecord {
-                number: counted(counts.periods),
-                minute,
-                measure,
-                cycle: strategy.ask(),
-                openings: counts.openings,
-            })
-        }
-    }
+    let measure = closed?;
+    strategy.tell(minute, measure);
+    Some(PeriodRecord {
+        number: count_after(counts.periods),
+        minute,
+        measure,
+        cycle: strategy.ask(),
+        openings: counts.openings,
+    })
 }
 
 // The alarm record of a trip, if there is one, with the phase before it.
 pub(crate) fn alarm_of(trip: Option<Trip>, counts: Counts, phase: Phase) -> Option<AlarmRecord>
     ensures { result ≡ option_map (alarm_record_of counts phase) trip }
 {
-    match trip {
-        None => None,
-        Some(trip) => Some(AlarmRecord {
-            second: counted(counts.seconds),
-            code: trip.code,
-            lamp: trip.lamp,
-            phase,
-        }),
-    }
+    let Trip { code, lamp } = trip?;
+    Some(AlarmRecord {
+        second: count_after(counts.seconds),
+        code,
+        lamp,
+        phase,
+    })
 }
 
 // Puts a record into its ring, if there is one.
@@ -99,10 +93,8 @@ pub(crate) fn length_fixed<S: Strategy>(
 ) -> u32
     ensures { result ≡ (if begins then length_fixed centre_cycle (S.Strategy.cycle strategy.now) else 0) }
 {
-    if !begins {
-        return 0;
-    }
     match centre_cycle {
+        _ if !begins => 0,
         Some(cycle) => cycle,
         None => strategy.ask(),
     }

@@ -6,7 +6,7 @@ ghost use Rattle.orders.specs.Orders.{order_of};
 ghost use Rattle.station.specs.Lines.{bytes_of, too_long, taken_with};
 
 use control::answer::Refused;
-use control::lines::refused_by;
+use control::lines::check_order;
 use control::stage::Stage;
 use control::state::Mode;
 use orders::order::Order;
@@ -53,10 +53,8 @@ fn answer_order(
     ensures bytes { buffer.new ≡ buffer_after (answered_by (length buffer.old) (refused_by (is_tripped stage) mode order) (reply_of sheet.now stage order)) buffer.old }
     ensures few { IfOk result (λ n. n ≤ 34) }
 {
-    match refused_by(stage.is_tripped(), mode, order) {
-        Some(refused) => Err(refused),
-        None => reply_to(order, sheet, stage, buffer),
-    }
+    check_order(stage.is_tripped(), mode, order)?;
+    reply_to(order, sheet, stage, buffer)
 }
 
 // Reads a line and answers it: the order to be obeyed with the bytes of its answer, or why the line is refused.

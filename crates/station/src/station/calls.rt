@@ -16,8 +16,8 @@ use crate::station::field::{Field, View};
 use control::answer::{Answer, Refused};
 use control::counts::is_dark;
 use control::stage::{Conditions, Stage};
-use control::state::{Command, Counts, Mode, Queue};
-use control::wanted::{in_calendar, wanted_after};
+use control::state::{Command, Counts, Queue};
+use control::wanted::in_calendar;
 use lamps::head::LampHead;
 use loops::tally::PeriodTally;
 use records::alarm::AlarmRecord;
@@ -42,18 +42,9 @@ impl<S: Strategy, H: LampHead> Station<S, H> {
             strategy,
             head,
             tally,
-            command: Command {
-                mode: Mode::Local,
-                wanted: false,
-                centre_cycle: None,
-            },
-            queue: Queue { over: 0, under: 0 },
-            counts: Counts {
-                seconds: 0,
-                periods: 0,
-                openings: 0,
-                shown: 0,
-            },
+            command: Command::default(),
+            queue: Queue::default(),
+            counts: Counts::default(),
             stage: Stage::Standby,
         }
     }
@@ -80,10 +71,8 @@ impl<S: Strategy, H: LampHead> Station<S, H> {
         let period = tell_close(&mut self.strategy, closed, minute, self.counts);
         let queue = self.queue.after(&self.sheet, field.queue_ms);
         let inside = in_calendar(calendar, minute);
-        let wanted = wanted_after(
+        let wanted = self.command.wanted_after(
             &self.sheet,
-            self.command.mode,
-            self.command.wanted,
             before.is_standby(),
             inside,
             self.counts.shown,
@@ -139,11 +128,7 @@ impl<S: Strategy, H: LampHead> Station<S, H> {
             return Err(Refused::NotTripped);
         }
         self.head.restore();
-        self.command = Command {
-            mode: Mode::Local,
-            wanted: false,
-            centre_cycle: None,
-        };
+        self.command = Command::default();
         self.counts.shown = 0;
         self.stage = Stage::Standby;
         Ok(())

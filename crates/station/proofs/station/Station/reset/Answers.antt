@@ -38,7 +38,11 @@ returns g c =
     let same : (ss : List Second) → _ ≡ reset_taken (model hd self ss) = λ ss. λ i. record {
       strategy = self.strategy;
       readings = ss;
-      command = (reset_taken (model hd self ss)).command;
+      command = record {
+        mode = c.default-self.ensures.0 i;
+        wanted = c.default-self.ensures.1.0 i;
+        centre_cycle = c.default-self.ensures.1.1 i;
+      };
       queue = self.queue;
       counts = (reset_taken (model hd self ss)).counts;
       stage = (reset_taken (model hd self ss)).stage;
