@@ -1,5 +1,5 @@
 -- A station as its rules see it, and what its calls promise.
-use Rattle.std.specs.Prelude.{◌≡◌, ℕ, Bool, List, length, IfErr, Result}
+use Rattle.std.specs.Prelude.{◌≡◌, ℕ, Bool, List, ◌∷◌, length, IfErr, Result}
 use Rattle.sheet.specs.declared.calendar.MinuteRange.{MinuteRange}
 use Rattle.strategy.specs.declared.strategy.Strategy.{Ghosts as StrategyMeaning}
 use Rattle.loops.specs.Held.{Holds}
@@ -17,7 +17,7 @@ use Rattle.control.specs.Lines.{line_answer, obeyed, buffer_after, after_reset, 
 use Rattle.control.specs.Model.{Model, Given}
 use Rattle.control.specs.Phases.{phase_of, running_cycle}
 use Rattle.control.specs.Seconds.{after, answer, readings_after, period_put, alarm_put}
-use Rattle.runlaw.specs.History.{History, WentThrough}
+use Rattle.runlaw.specs.History.{Act, History, WentThrough}
 use Rattle.runlaw.specs.Log.{colour_shown, phase_shown, cycle_shown}
 use Rattle.runlaw.specs.RunLaw.{RunLaw}
 use Rattle.station.specs.declared.station.Station.{Station}
@@ -64,6 +64,10 @@ module _ {S H : Type 0} (st : StrategyMeaning S) (hd : HeadMeaning H) where
   -- the station was opened with the strategy's state s, and went through exactly these acts
   abbrev pub Lived : Station S H → S → History → Type 0
   Lived t s h = (ss : List Readings) × Stands t ss × WentThrough st t.sheet s h (model hd t ss)
+
+  -- every history that the station lived goes on by the act, as it is behind it
+  abbrev pub GoesOn : (before behind : Station S H) → Act → Type 0
+  GoesOn before behind act = (s : S) (h : History) → Lived before s h → Lived behind s (act ∷ h)
 
   -- what a second does: the station, its answer and both rings are those that the rules say
   pub record SecondDone (before : Station S H) (ss : List Readings) (g : Given) (behind : Station S H) (r : Answer) (ps ps' : Ring PeriodRecord) (ls ls' : Ring AlarmRecord) : Type 0 where

@@ -6,6 +6,7 @@ use sheet::sheet::Sheet;
 
 pub mod calls;
 pub mod field;
+mod replies;
 pub mod words;
 
 // Opening one uses an accepted sheet up. A second, a command line and a breaker reset are its acts.

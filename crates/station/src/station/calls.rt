@@ -1,16 +1,15 @@
 // The calls of a station.
-ghost use Rattle.std.specs.Prelude.{◌≡◌, ◌≤◌, List, [], ◌∷◌, IfOk};
+ghost use Rattle.std.specs.Prelude.{◌≡◌, ◌≤◌, List, [], IfOk};
 ghost use Rattle.loops.specs.Rules.{Second as Readings};
 ghost use Rattle.control.specs.Fresh.{fresh};
 ghost use Rattle.runlaw.specs.History.{History, Second as SecondAct, Line as LineAct, Reset as ResetAct};
 ghost use Rattle.station.specs.Lines.{replied};
-ghost use Rattle.station.specs.Station.{model, Stands, Lived, SecondDone, LineDone, ResetDone, Looked, view_of, given_by};
+ghost use Rattle.station.specs.Station.{model, Stands, Lived, GoesOn, SecondDone, LineDone, ResetDone, Looked, view_of, given_by};
 
 use crate::parts::{
     alarm_of, closed_with, drive, length_fixed, put_some, stage_after, tell_close, trip_now,
     wanted_kept,
 };
-use crate::replies::answer_line;
 use crate::station::Station;
 use crate::station::field::{Field, View};
 use control::answer::{Answer, Refused};
@@ -60,7 +59,7 @@ impl<S: Strategy, H: LampHead> Station<S, H> {
     ) -> Answer
         ensures sheet { self.new.sheet ≡ self.old.sheet }
         ensures done { (ss : List Readings) → Stands self.old ss → SecondDone S.Strategy H.LampHead self.old ss (given_by field.entry.presence field.entry.queue_ms field.entry.word minute calendar.now field.entry.lanes.now) self.new result periods.old periods.new alarms.old alarms.new }
-        ensures lived { (s : S) (h : History) → Lived S.Strategy H.LampHead self.old s h → Lived S.Strategy H.LampHead self.new s (SecondAct (given_by field.entry.presence field.entry.queue_ms field.entry.word minute calendar.now field.entry.lanes.now) result (H.LampHead.colour self.new.head) ∷ h) }
+        ensures lived { GoesOn S.Strategy H.LampHead self.old self.new (SecondAct (given_by field.entry.presence field.entry.queue_ms field.entry.word minute calendar.now field.entry.lanes.now) result (H.LampHead.colour self.new.head)) }
     {
         let minute = minute % 10_080;
         let before = self.stage;
@@ -110,10 +109,10 @@ impl<S: Strategy, H: LampHead> Station<S, H> {
     pub fn line(&mut self, line: &[u8], buffer: &mut [u8]) -> Result<usize, Refused>
         ensures sheet { self.new.sheet ≡ self.old.sheet }
         ensures done { LineDone S.Strategy H.LampHead self.old line.now buffer.old self.new buffer.new result }
-        ensures lived { (s : S) (h : History) → Lived S.Strategy H.LampHead self.old s h → Lived S.Strategy H.LampHead self.new s (LineAct line.now buffer.old buffer.new (replied result buffer.new) (H.LampHead.colour self.new.head) ∷ h) }
+        ensures lived { GoesOn S.Strategy H.LampHead self.old self.new (LineAct line.now buffer.old buffer.new (replied result buffer.new) (H.LampHead.colour self.new.head)) }
         ensures few { IfOk result (λ n. n ≤ 34) }
     {
-        let (order, bytes) = answer_line(line, &self.sheet, self.stage, self.command.mode, buffer)?;
+        let (order, bytes) = self.answer_line(line, buffer)?;
         self.command = self.command.after(order);
         Ok(bytes)
     }
@@ -122,7 +121,7 @@ impl<S: Strategy, H: LampHead> Station<S, H> {
     pub fn reset(&mut self) -> Result<(), Refused>
         ensures sheet { self.new.sheet ≡ self.old.sheet }
         ensures done { ResetDone S.Strategy H.LampHead self.old self.new result }
-        ensures lived { (s : S) (h : History) → Lived S.Strategy H.LampHead self.old s h → Lived S.Strategy H.LampHead self.new s (ResetAct result (H.LampHead.colour self.new.head) ∷ h) }
+        ensures lived { GoesOn S.Strategy H.LampHead self.old self.new (ResetAct result (H.LampHead.colour self.new.head)) }
     {
         if !self.stage.is_tripped() {
             return Err(Refused::NotTripped);
