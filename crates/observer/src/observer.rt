@@ -6,9 +6,9 @@ ghost use Rattle.observer.specs.Steps.{wait_with};
 ghost use Rattle.observer.specs.Totals.{Shown, observer_of};
 
 use crate::totals::Totals;
-use control::counts::counted;
 use lamps::colour::Colour;
 use records::phase::Phase;
+use records::putting::count_after;
 
 // What an observer keeps in mind of a run: its totals so far, whether the newest second was of a window flash, and the seconds of
 // the wait so far.
@@ -37,7 +37,7 @@ fn is_of_wait(colour: Colour, phase: Phase, presence: bool) -> bool
 fn wait_with(goes_on: bool, waited: u32) -> u32
     ensures { result ≡ wait_with goes_on waited }
 {
-    if goes_on { counted(waited) } else { 0 }
+    if goes_on { count_after(waited) } else { 0 }
 }
 
 impl Observer {
@@ -46,13 +46,7 @@ impl Observer {
         ensures { result ≡ observer_of [] 0 }
     {
         Observer {
-            totals: Totals {
-                seconds: 0,
-                openings: 0,
-                longest: 0,
-                trips: 0,
-                refusals: 0,
-            },
+            totals: Totals::default(),
             in_flash: false,
             waited: 0,
         }

@@ -1,11 +1,12 @@
 // The totals of a run.
 ghost use Rattle.std.specs.Prelude.{◌≡◌};
-ghost use Rattle.observer.specs.Steps.{counted_if, second_added, refusal_added};
+ghost use Rattle.observer.specs.Steps.{second_added, refusal_added};
 
-use control::counts::counted;
+use control::counts::counted_if;
+use records::putting::count_after;
 
 // The figures of a run's closing row; each stops at its highest value.
-#[derive(Clone, Copy)]
+#[derive(Clone, Copy, Default)]
 pub struct Totals {
     pub seconds: u32,
     pub openings: u32,
@@ -16,20 +17,13 @@ pub struct Totals {
     pub refusals: u32,
 }
 
-// A count with one more if that holds.
-fn counted_if(holds: bool, count: u32) -> u32
-    ensures { result ≡ counted_if holds count }
-{
-    if holds { counted(count) } else { count }
-}
-
 impl Totals {
     // The totals with a second more: is it an opening, does it trip, and how long has the wait been with it?
     pub(crate) fn after_second(self, opens: bool, trips: bool, waited: u32) -> Totals
         ensures { result ≡ second_added opens trips waited self }
     {
         Totals {
-            seconds: counted(self.seconds),
+            seconds: count_after(self.seconds),
             openings: counted_if(opens, self.openings),
             longest: self.longest.max(waited),
             trips: counted_if(trips, self.trips),
@@ -42,7 +36,7 @@ impl Totals {
         ensures { result ≡ refusal_added self }
     {
         Totals {
-            refusals: counted(self.refusals),
+            refusals: count_after(self.refusals),
             ..self
         }
     }
