@@ -149,6 +149,7 @@ impl Meter {
     pub fn after(self, sheet: &Sheet, conditions: Conditions) -> Stage
         ensures { result ≡ metered sheet.now conditions self }
     {
-        self.clocked(conditions.length).after_light(sheet, conditions)
+        self.clocked(conditions.length)
+            .after_light(sheet, conditions)
     }
 }

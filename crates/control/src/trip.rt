@@ -25,7 +25,8 @@ fn lamp_of(colour: Colour) -> Option<Lamp>
     }
 }
 
-// Is the lamp lit without being ordered?
+// Is the lamp lit without being ordered? What is lit and what is ordered stay two values: one comes from the lamps, one from
+// the head, and nothing keeps them together.
 fn is_unwanted(lit: u32, colour: Colour, lamp: Lamp) -> bool
     ensures { result ≡ is_unwanted lit colour lamp }
 {

@@ -19,7 +19,7 @@ pub struct Observer {
     waited: u32,
 }
 
-// Is it a second of a window flash?
+// Is it a second of a window flash? Colour and phase stay two values: a type for the pair would serve these two tests alone.
 fn is_window_flash(colour: Colour, phase: Phase) -> bool
     ensures { result ≡ (is_flashing colour && in_metering phase) }
 {

@@ -86,6 +86,7 @@ pub(crate) fn put_some<T: Copy>(ring: &mut Ring<'_, T>, element: Option<T>)
 }
 
 // The length of a reference cycle that begins now: the centre's cycle if set, else the strategy's, which is asked only then.
+// It is 0 where none begins, and no Option: the conditions of a second have a length in any case, and nothing uses this one.
 pub(crate) fn length_fixed<S: Strategy>(
     begins: bool,
     centre_cycle: Option<u32>,

@@ -48,6 +48,7 @@ impl<S: Strategy, H: LampHead> Station<S, H> {
         }
     }
 
+    // Of each act, `sheet`: no type says of a call that it leaves a field as it was.
     // One second. Puts a period record into the ring of periods where a period closes, and an alarm record into that of alarms where it trips.
     pub fn second(
         &mut self,

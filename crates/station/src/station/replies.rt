@@ -51,7 +51,11 @@ impl<S, H> Station<S, H> {
     }
 
     // Reads a line and answers it: the order to be obeyed with the bytes of its answer, or why the line is refused.
-    pub(crate) fn answer_line(&self, line: &[u8], buffer: &mut [u8]) -> Result<(Order, usize), Refused>
+    pub(crate) fn answer_line(
+        &self,
+        line: &[u8],
+        buffer: &mut [u8],
+    ) -> Result<(Order, usize), Refused>
         ensures taken { result ≡ taken_with (order_of line.now) (answer_to self.now.sheet self.now.stage self.now.command.mode (length buffer.old) (order_of line.now)) }
         ensures bytes { buffer.new ≡ buffer_after (answer_to self.now.sheet self.now.stage self.now.command.mode (length buffer.old) (order_of line.now)) buffer.old }
         ensures few { IfOk result (λ taken. taken.1 ≤ 34) }
