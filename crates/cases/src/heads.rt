@@ -125,10 +125,6 @@ const CURRENTS: [(u8, bool); 6] = [
     (255, true),
 ];
 
-fn part(lit: bool, number: u32) -> u32 {
-    if lit { number } else { 0 }
-}
-
 // Each current of each lamp, whatever the highest byte: 432 words.
 #[test]
 fn words_of_the_current_head(rt: HostRuntime) {
@@ -136,7 +132,7 @@ fn words_of_the_current_head(rt: HostRuntime) {
     for (red, red_lit) in CURRENTS {
         for (fixed, fixed_lit) in CURRENTS {
             for (flashing, flashing_lit) in CURRENTS {
-                let lit = part(red_lit, 1) | part(fixed_lit, 2) | part(flashing_lit, 4);
+                let lit = u32::from(red_lit) + 2 * u32::from(fixed_lit) + 4 * u32::from(flashing_lit);
                 for highest in [0, 255] {
                     let word = u32::from_le_bytes([red, fixed, flashing, highest]);
                     assert_eq!(rt; head.read(word), lit);

@@ -36,10 +36,7 @@ fn byte_at(place: usize, first: usize, text: &[u8]) -> u8 {
     if place < first {
         return MARK;
     }
-    match text.get(place - first) {
-        Some(byte) => *byte,
-        None => MARK,
-    }
+    text.get(place - first).copied().unwrap_or(MARK)
 }
 
 // The buffer holds the text from this place on, and else the mark.

@@ -18,20 +18,13 @@ fn codes_of_trips(rt: HostRuntime) {
 }
 
 // A kind of element, with one for each number.
-trait Numbered: Copy {
+trait Numbered: Copy + PartialEq {
     fn numbered(n: u32) -> Self;
-
-    // Whether it is the element of this number, in every part.
-    fn has_number(self, n: u32) -> bool;
 }
 
 impl Numbered for u32 {
     fn numbered(n: u32) -> u32 {
         n
-    }
-
-    fn has_number(self, n: u32) -> bool {
-        self == n
     }
 }
 
@@ -52,10 +45,6 @@ fn alarm(n: u32) -> AlarmRecord {
 impl Numbered for AlarmRecord {
     fn numbered(n: u32) -> AlarmRecord {
         alarm(n)
-    }
-
-    fn has_number(self, n: u32) -> bool {
-        self == alarm(n)
     }
 }
 
@@ -81,24 +70,18 @@ impl Numbered for PeriodRecord {
     fn numbered(n: u32) -> PeriodRecord {
         period(n)
     }
-
-    fn has_number(self, n: u32) -> bool {
-        self == period(n)
-    }
 }
 
 // The list begins with `many` elements, oldest first, of which the newest has the number put; the rest has the number 0.
 fn newest_come_last<T: Numbered>(rt: &impl Abort, list: &[T], many: u32, put: u32) {
     let gone = put.saturating_sub(many);
-    let mut place = 0u32;
-    for x in list {
-        place = place.saturating_add(1);
+    for (place, x) in (1..u32::MAX).zip(list) {
         let number = if place <= many {
             gone.saturating_add(place)
         } else {
             0
         };
-        assert!(rt; x.has_number(number));
+        assert!(rt; *x == T::numbered(number));
     }
 }
 
@@ -112,9 +95,7 @@ fn newest_are_kept<T: Numbered>(
 ) {
     assert_eq!(rt; ring.count(), put);
     assert_eq!(rt; ring.len(), many as usize);
-    for x in list.iter_mut() {
-        *x = T::numbered(0);
-    }
+    list.fill(T::numbered(0));
     assert_eq!(rt; ring.copy_to(list, 0), many as usize);
     newest_come_last(rt, list, many, put);
 }
