@@ -1,17 +1,32 @@
 -- What fields of a log's rows write.
-use Rattle.std.specs.Prelude.{ℕ, Bool, true, false, List, [], ◌++◌, Some, None, codes, decimal, Option}
+use Rattle.std.specs.Prelude.{ℕ, Bool, true, false, List, [], ◌∷◌, ◌++◌, Some, None, codes, decimal, Option}
 use Rattle.control.specs.declared.answer.Trip.{Trip}
 use Rattle.lamps.specs.Sets.{number_of}
 use Rattle.lamps.specs.declared.colour.Colour.{Colour}
 use Rattle.lamps.specs.declared.colour.Colour.TheVariants as colour
+use Rattle.orders.specs.declared.fault.Refusal.{Refusal}
 use Rattle.records.specs.Codes.{code_number}
 use Rattle.records.specs.declared.phase.Phase.{Phase}
 use Rattle.records.specs.declared.phase.Phase.TheVariants as phase
+use Rattle.log_rows.specs.Rows.{fields_text}
+
+-- what is written of what an option holds, or a word where it holds nothing
+abbrev pub shown_or : {A : Type 0} → (A → Option (List ℕ)) → List ℕ → Option A → Option (List ℕ)
+shown_or output word (Some x) = output x
+shown_or output word None = Some word
 
 -- a number in decimal, or nothing where there is none
 abbrev pub number_or_nothing : Option ℕ → List ℕ
 number_or_nothing (Some n) = decimal n
 number_or_nothing None = []
+
+-- NUMBER and VALUE of a refusal, the value empty where there is none
+abbrev pub refusal_fields : Refusal → List (List ℕ)
+refusal_fields r = decimal r.number ∷ number_or_nothing r.value ∷ []
+
+-- refused;NUMBER;VALUE
+abbrev pub refused_text : Refusal → List ℕ
+refused_text r = codes "refused" ++ fields_text (refusal_fields r)
 
 -- the word for a colour
 abbrev pub colour_text : Colour → List ℕ

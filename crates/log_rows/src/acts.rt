@@ -2,7 +2,7 @@
 ghost use Rattle.std.specs.Prelude.{Some};
 ghost use Rattle.log_rows.specs.Whole.{line_taken_text, line_refused_text, reset_taken_text, reset_refused_text};
 
-use crate::fields::OrNothing;
+use crate::fields::Refused;
 use orders::fault::Refusal;
 use std::fmt;
 
@@ -37,9 +37,7 @@ impl fmt::Display for LineRefused {
     ghost output = { λ x. Some (line_refused_text x.0) };
 
     fn fmt<W: fmt::Write>(&self, f: &mut fmt::Formatter<W>) -> fmt::Result {
-        let number = self.0.number;
-        let value = OrNothing(self.0.value);
-        write!(f, "line;refused;{number};{value}")
+        write!(f, "line;{}", Refused(self.0))
     }
 }
 
@@ -55,8 +53,6 @@ impl fmt::Display for ResetRefused {
     ghost output = { λ x. Some (reset_refused_text x.0) };
 
     fn fmt<W: fmt::Write>(&self, f: &mut fmt::Formatter<W>) -> fmt::Result {
-        let number = self.0.number;
-        let value = OrNothing(self.0.value);
-        write!(f, "reset;refused;{number};{value}")
+        write!(f, "reset;{}", Refused(self.0))
     }
 }

@@ -14,10 +14,9 @@ impl fmt::Display for AlarmRow {
     ghost output = { λ x. Some (alarm_text x.0) };
 
     fn fmt<W: fmt::Write>(&self, f: &mut fmt::Formatter<W>) -> fmt::Result {
-        let second = self.0.second;
         let code = self.0.code.number();
         let lamp = self.0.lamp.number();
         let phase = phase_word(self.0.phase);
-        write!(f, "alarm;{second};{code};{lamp};{phase}")
+        write!(f, "alarm;{};{code};{lamp};{phase}", self.0.second)
     }
 }

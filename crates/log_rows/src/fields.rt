@@ -1,20 +1,40 @@
-// Fields of a row that may have nothing to tell.
+// Fields that more than one row has.
 ghost use Rattle.std.specs.Prelude.{Some};
-ghost use Rattle.log_rows.specs.Fields.{number_or_nothing};
+ghost use Rattle.log_rows.specs.Fields.{shown_or, refused_text};
 
+use orders::fault::Refusal;
 use std::fmt;
 
-// A number, or nothing where there is none.
+// What an option holds, or a word where it holds nothing.
 #[derive(Clone, Copy)]
-pub(crate) struct OrNothing(pub(crate) Option<usize>);
+pub(crate) struct ShownOr<N> {
+    pub(crate) held: Option<N>,
+    pub(crate) word: &'static str,
+}
 
-impl fmt::Display for OrNothing {
-    ghost output = { λ x. Some (number_or_nothing x.0) };
+// That an act was refused: the number of the refusal and its value, if it has one.
+#[derive(Clone, Copy)]
+pub(crate) struct Refused(pub(crate) Refusal);
+
+impl<N: fmt::Display> fmt::Display for ShownOr<N> {
+    ghost output = { λ x. shown_or N.output x.word.now x.held };
 
     fn fmt<W: fmt::Write>(&self, f: &mut fmt::Formatter<W>) -> fmt::Result {
-        match self.0 {
-            Some(number) => write!(f, "{number}"),
-            None => write!(f, ""),
+        match &self.held {
+            Some(held) => write!(f, "{held}"),
+            None => write!(f, "{}", self.word),
         }
+    }
+}
+
+impl fmt::Display for Refused {
+    ghost output = { λ x. Some (refused_text x.0) };
+
+    fn fmt<W: fmt::Write>(&self, f: &mut fmt::Formatter<W>) -> fmt::Result {
+        let value = ShownOr {
+            held: self.0.value,
+            word: "",
+        };
+        write!(f, "refused;{};{value}", self.0.number)
     }
 }

@@ -1,8 +1,8 @@
 // One row of the log.
-ghost use Rattle.std.specs.Prelude.{◌≡◌, Some};
-ghost use Rattle.std.specs.Option.{option_map};
+ghost use Rattle.std.specs.Prelude.{Some};
 ghost use Rattle.log_rows.specs.Rows.{number_or_dash, period_text, sheet_refused_text, closing_text};
 
+use crate::fields::ShownOr;
 use sheet::draft::Refusal;
 use std::fmt;
 use strategy::measure::Measure;
@@ -40,10 +40,11 @@ impl fmt::Display for OrDash {
     ghost output = { λ x. Some (number_or_dash x.0) };
 
     fn fmt<W: fmt::Write>(&self, f: &mut fmt::Formatter<W>) -> fmt::Result {
-        match self.0 {
-            Some(number) => write!(f, "{number}"),
-            None => write!(f, "-"),
-        }
+        let shown = ShownOr {
+            held: self.0,
+            word: "-",
+        };
+        write!(f, "{shown}")
     }
 }
 
@@ -51,31 +52,7 @@ impl fmt::Display for SheetRefused {
     ghost output = { λ x. Some (sheet_refused_text x.0) };
 
     fn fmt<W: fmt::Write>(&self, f: &mut fmt::Formatter<W>) -> fmt::Result {
-        let number = self.0.number;
-        let figure = self.0.figure;
-        write!(f, "sheet;refused;{number};{figure}")
-    }
-}
-
-impl PeriodRow {
-    // The flow of the measure, if there is one.
-    fn flow(&self) -> OrDash
-        ensures { result.0 ≡ option_map (λ m. m.flow) self.now.measure }
-    {
-        match self.measure {
-            Some(measure) => OrDash(Some(measure.flow)),
-            None => OrDash(None),
-        }
-    }
-
-    // The occupancy of the measure, if there is one.
-    fn occupancy(&self) -> OrDash
-        ensures { result.0 ≡ option_map (λ m. m.occupancy_permille) self.now.measure }
-    {
-        match self.measure {
-            Some(measure) => OrDash(Some(measure.occupancy_permille)),
-            None => OrDash(None),
-        }
+        write!(f, "sheet;refused;{};{}", self.0.number, self.0.figure)
     }
 }
 
@@ -83,12 +60,16 @@ impl fmt::Display for PeriodRow {
     ghost output = { λ x. Some (period_text x) };
 
     fn fmt<W: fmt::Write>(&self, f: &mut fmt::Formatter<W>) -> fmt::Result {
-        let number = self.number;
-        let minute = self.minute;
-        let flow = self.flow();
-        let occupancy = self.occupancy();
-        let cycle = self.cycle;
-        let openings = OrDash(self.openings);
+        let PeriodRow {
+            number,
+            minute,
+            measure,
+            cycle,
+            openings,
+        } = *self;
+        let flow = OrDash(measure.map(|m| m.flow));
+        let occupancy = OrDash(measure.map(|m| m.occupancy_permille));
+        let openings = OrDash(openings);
         write!(
             f,
             "period;{number};{minute};{flow};{occupancy};{cycle};{openings}"

@@ -24,12 +24,8 @@ impl fmt::Display for TripField {
 
     fn fmt<W: fmt::Write>(&self, f: &mut fmt::Formatter<W>) -> fmt::Result {
         match self.0 {
-            Some(trip) => {
-                let code = trip.code.number();
-                let lamp = trip.lamp.number();
-                write!(f, "{code}|{lamp}")
-            }
-            None => write!(f, ""),
+            Some(trip) => write!(f, "{}|{}", trip.code.number(), trip.lamp.number()),
+            None => Ok(()),
         }
     }
 }
@@ -38,12 +34,15 @@ impl fmt::Display for SecondRow {
     ghost output = { λ x. Some (second_text x) };
 
     fn fmt<W: fmt::Write>(&self, f: &mut fmt::Formatter<W>) -> fmt::Result {
-        let number = self.number;
-        let colour = colour_word(self.answer.colour);
-        let phase = phase_word(self.answer.phase);
-        let sign = sign_word(self.answer.sign);
-        let trip = TripField(self.answer.trip);
-        let cycle = self.cycle;
+        let SecondRow {
+            number,
+            answer,
+            cycle,
+        } = *self;
+        let colour = colour_word(answer.colour);
+        let phase = phase_word(answer.phase);
+        let sign = sign_word(answer.sign);
+        let trip = TripField(answer.trip);
         write!(f, "second;{number};{colour};{phase};{sign};{trip};{cycle}")
     }
 }

@@ -1,4 +1,5 @@
-// The words of the log for a colour, a phase and the advance sign.
+// The words of the log for a colour, a phase and the advance sign. They are functions: the words are the log's and the
+// types are other crates', so a Display would take a type of its own for each.
 ghost use Rattle.std.specs.Prelude.{◌≡◌};
 ghost use Rattle.log_rows.specs.Fields.{colour_text, phase_text, sign_text};
 
