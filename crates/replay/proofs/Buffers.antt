@@ -1,5 +1,5 @@
 -- The answer buffer of a line.
-use Rattle.std.proofs.Common.{◌≡◌, ℕ, zero, suc, min, List, ◌∷◌, take, replicate, Result, ap, ◌∙◌, subst, arith}
+use Rattle.std.proofs.Common.{◌≡◌, ℕ, List, Result, subst}
 use Rattle.strategy.specs.declared.strategy.Strategy.{Ghosts as StrategyMeaning}
 use Rattle.lamps.specs.declared.head.LampHead.{Ghosts as HeadMeaning}
 use Rattle.control.specs.declared.answer.Refused.{Refused}
@@ -8,14 +8,6 @@ use Rattle.station.specs.declared.station.Station.{Station}
 use Rattle.replay.specs.declared.answered.Reply.{Reply}
 use Rattle.replay.specs.Acts.{replied_in}
 use Rattle.replay.specs.Played.{LinePlayed}
-
--- the front of a list of zeros
-pub zeros_front : (k n : ℕ) → take k (replicate {A = ℕ} n 0) ≡ replicate (min k n) 0
-zeros_front zero n = let e : 0 ≡ min 0 n = omega arith in ap (λ m. replicate {A = ℕ} m 0) e
-zeros_front (suc k) zero = let e : 0 ≡ min (suc k) 0 = omega arith in ap (λ m. replicate {A = ℕ} m 0) e
-zeros_front (suc k) (suc n) =
-    let e : suc (min k n) ≡ min (suc k) (suc n) = omega arith in
-    ap (λ xs. 0 ∷ xs) (zeros_front k n) ∙ ap (λ m. replicate {A = ℕ} m 0) e
 
 -- a line that was played with a buffer was played with an equal one
 pub same_buffer :

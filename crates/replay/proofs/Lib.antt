@@ -1,4 +1,3 @@
-pub mod Replies
 pub mod Rings
 pub mod Buffers
 pub mod Following

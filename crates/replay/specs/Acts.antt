@@ -1,5 +1,5 @@
 -- The acts of a plan with their outcomes, as the acts of a history.
-use Rattle.std.specs.Prelude.{◌≡◌, ℕ, min, List, [], ◌∷◌, replicate, Some, None, Ok, Err, Option, Result}
+use Rattle.std.specs.Prelude.{◌≡◌, ℕ, min, List, [], ◌∷◌, replicate, Ok, Err, Result}
 use Rattle.plan.specs.declared.row.Word.{Word}
 use Rattle.plan.specs.declared.row.Word.TheVariants.{Lit, Given as Number}
 use Rattle.lamps.specs.declared.colour.Colour.{Colour}
@@ -38,11 +38,6 @@ buffer_for l = replicate (min l.room 1000) 0
 abbrev pub replied_in : Result Reply Refused → Result (List ℕ) Refused
 replied_in (Ok r) = Ok (reply_in r)
 replied_in (Err e) = Err e
-
--- the first of a list, if there is one
-abbrev pub first_in : {A : Type 0} → List A → Option A
-first_in [] = None
-first_in (x ∷ xs) = Some x
 
 -- the act of a history that an act of a plan and its outcome make, with the colour that the head means after it
 abbrev pub act_with : Act → Outcome → Colour → history.Act

@@ -1,17 +1,14 @@
 -- What a second of a plan comes to, for the loops and the strategy.
-use Rattle.std.specs.Prelude.{◌≡◌, ℕ, ◌+◌, ◌%◌, min, List, [], ◌∷◌, ◌++◌, Some, None, Option}
+use Rattle.std.specs.Prelude.{◌≡◌, ℕ, ◌%◌, List, [], ◌∷◌, ◌++◌, Some, None, Option}
 use Rattle.loops.specs.Rules.{Second}
 use Rattle.loops.specs.Held.{Holds, After}
 use Rattle.loops.specs.declared.tally.Tallied.{Tallied}
 use Rattle.loops.specs.declared.tally.Tallied.TheVariants.{Running, Closed}
+use Rattle.records.specs.Kept.{count_after}
 use Rattle.log_rows.specs.declared.row.PeriodRow.{PeriodRow}
 use Rattle.strategy.specs.declared.measure.Measure.{Measure}
 use Rattle.strategy.specs.declared.strategy.Strategy.{Ghosts as StrategyMeaning}
 use Rattle.replay.specs.declared.peak.Peak.{Peak}
-
--- a count with one more, which stops at its highest value
-abbrev pub counted : ℕ → ℕ
-counted n = min (n + 1) 4294967295
 
 -- the row of a period that closed in this minute with this measure or none, the strategy being told first
 abbrev pub period_row : {S : Type 0} → StrategyMeaning S → S → (number minute : ℕ) → Option Measure → PeriodRow
@@ -25,8 +22,8 @@ GoesOn before after r = (r ≡ None) × (after.strategy ≡ before.strategy) × 
 -- a second in which the period closes: the strategy is told the minute of the week and the measure or none, and the row says so
 abbrev pub Closes : {S : Type 0} → StrategyMeaning S → Peak S → (minute : ℕ) → Option Measure → Peak S → Option PeriodRow → Type 0
 Closes meaning before minute m after r =
-    (r ≡ Some (period_row meaning before.strategy (counted before.periods) (minute % 10080) m)) ×
-    (after.strategy ≡ meaning.next before.strategy (minute % 10080) m) × (after.periods ≡ counted before.periods)
+    (r ≡ Some (period_row meaning before.strategy (count_after before.periods) (minute % 10080) m)) ×
+    (after.strategy ≡ meaning.next before.strategy (minute % 10080) m) × (after.periods ≡ count_after before.periods)
 
 abbrev pub Did : {S : Type 0} → StrategyMeaning S → Peak S → (minute : ℕ) → Peak S → Option PeriodRow → Tallied → Type 0
 Did meaning before minute after r Running = GoesOn before after r
@@ -37,5 +34,5 @@ pub record Seen {S : Type 0} (meaning : StrategyMeaning S) (before : Peak S) (mi
   pub tallied : Tallied
   pub law : (ss : List Second) → Holds before.tally ss → After after.tally (ss ++ readings ∷ []) tallied
   pub figures : after.tally.figures ≡ before.tally.figures
-  pub seconds : after.seconds ≡ counted before.seconds
+  pub seconds : after.seconds ≡ count_after before.seconds
   pub did : Did meaning before minute after r tallied

@@ -29,7 +29,8 @@ pub struct SecondOutcome {
     pub alarm: Option<AlarmRecord>,
 }
 
-// The reply to a line: the first bytes of its answer buffer, and how many of them are the reply's.
+// The reply to a line: the first bytes of its answer buffer, and how many of them are the reply's. An array with its
+// length: an answer is copied into a place that is lent for it, and nothing here allocates.
 #[derive(Clone, Copy)]
 pub struct Reply {
     bytes: [u8; 34],

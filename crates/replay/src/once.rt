@@ -1,9 +1,9 @@
 // One act on a station, of each kind.
-ghost use Rattle.std.specs.Prelude.{◌≡◌, ◌∷◌, length, take};
+ghost use Rattle.std.specs.Prelude.{◌≡◌, ◌∷◌, length, take, slice_get};
 ghost use Rattle.records.specs.Rings.{kept_by};
 ghost use Rattle.control.specs.Lines.{buffer_after};
 ghost use Rattle.runlaw.specs.History.{Line as LineDone};
-ghost use Rattle.replay.specs.Acts.{WordGiven, first_in, buffer_for, replied_in};
+ghost use Rattle.replay.specs.Acts.{WordGiven, buffer_for, replied_in};
 ghost use Rattle.replay.specs.Played.{SecondPlayed, LinePlayed};
 
 use crate::act::{LineAct, SecondAct};
@@ -49,13 +49,10 @@ fn word_given<S, H: LampWords>(station: &Station<S, H>, word: Word) -> u32
 
 // The oldest that a ring keeps, if it keeps any, by way of a list of at least one place.
 fn oldest<T: Copy>(ring: &Ring<'_, T>, list: &mut [T]) -> Option<T>
-    ensures { result ≡ first_in (take (length list.old) (kept_by ring.now)) }
+    ensures { result ≡ slice_get (take (length list.old) (kept_by ring.now)) 0 }
 {
-    if ring.copy_to(list, 0) == 0 {
-        None
-    } else {
-        Some(list[0])
-    }
+    let kept = ring.copy_to(list, 0);
+    list[..kept].first().copied()
 }
 
 // A second, with rings of one place each, so that what it puts is all that they keep.

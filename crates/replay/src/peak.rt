@@ -3,11 +3,12 @@ ghost use Rattle.std.specs.Prelude.{◌≡◌, ◌+◌, min, List, [], ◌∷◌
 ghost use Rattle.loops.specs.Rules.{Second};
 ghost use Rattle.loops.specs.Held.{Holds};
 ghost use Rattle.loops.specs.Source.{TakenFrom};
-ghost use Rattle.replay.specs.Peak.{Seen, counted, period_row};
+ghost use Rattle.replay.specs.Peak.{Seen, period_row};
 
 use log_rows::row::PeriodRow;
 use loops::reading::LaneReading;
 use loops::tally::{PeriodTally, Tallied};
+use records::putting::count_after;
 use sheet::sheet::Sheet;
 use strategy::measure::Measure;
 use strategy::strategy::Strategy;
@@ -19,13 +20,6 @@ pub struct Peak<S> {
     strategy: S,
     seconds: u32,
     periods: u32,
-}
-
-// A count with one more, which stops at its highest value.
-fn one_more(count: u32) -> u32
-    ensures { result ≡ counted count }
-{
-    count.saturating_add(1)
 }
 
 // Tells the strategy what a period closed with, and answers the period's row.
@@ -68,11 +62,11 @@ impl<S: Strategy> Peak<S> {
     pub fn second(&mut self, minute: u32, readings: &[LaneReading]) -> Option<PeriodRow>
         ensures { Seen S.Strategy self.old minute readings.now self.new result }
     {
-        self.seconds = one_more(self.seconds);
+        self.seconds = count_after(self.seconds);
         match self.tally.second(readings) {
             Tallied::Running => None,
             Tallied::Closed(measure) => {
-                self.periods = one_more(self.periods);
+                self.periods = count_after(self.periods);
                 Some(close(&mut self.strategy, self.periods, minute % 10_080, measure))
             }
         }
@@ -82,7 +76,6 @@ impl<S: Strategy> Peak<S> {
     pub fn seconds(&self) -> u32
         ensures { result ≡ self.now.seconds }
     {
-        let Peak { seconds, .. } = self;
-        *seconds
+        self.seconds
     }
 }

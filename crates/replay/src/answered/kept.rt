@@ -22,6 +22,6 @@ impl Reply {
     pub fn as_slice(&self) -> &[u8]
         ensures { result.now ≡ reply_in self.now }
     {
-        &self.bytes[0..self.length.min(34)]
+        &self.bytes[..self.length.min(34)]
     }
 }

@@ -1,18 +1,25 @@
 use Rattle.std.proofs.Common.{ap}
+use Rattle.runlaw.specs.History.{Second}
 use Rattle.replay.specs.declared.run.Run.{Run}
 use Rattle.replay.specs.Acts.{given_in}
-use Rattle.replay.proofs.Following.{second_follows}
+use Rattle.replay.proofs.Following.{goes_on_by, second_counted}
 use Rattle.replay.proofs.run.Run.second.Goals as goal
 
 pub returns : goal.returns
 returns g c =
+    let st = g.S.Strategy in
+    let hd = g.H.LampHead in
+    let before = c.args.self.now in
     let done = c.do_second-outcome.ensures in
+    let given = given_in c.args.second c.do_second-outcome.result.word in
+    let a = c.do_second-outcome.result.answer in
+    let colour = c.look-view.result.colour in
+    let shown = ap (λ v. v.colour) c.look-view.ensures.view in
     let behind : Run g.row.S.Denot g.row.H.Denot = record { station = c.do_second-outcome.new.station; observer = c.after_second-self.result } in
     record {
       played = done;
       view = c.look-view.ensures.view;
       goes_on =
-          second_follows g.S.Strategy g.H.LampHead c.args.self.now behind done.sheet c.look-view.result.colour (ap (λ v. v.colour) c.look-view.ensures.view)
-          (given_in c.args.second c.do_second-outcome.result.word) c.do_second-outcome.result.answer c.is_some.result c.is_some.ensures done.lived
-          c.after_second-self.ensures;
+          goes_on_by st hd before behind done.sheet colour shown (Second given a) done.lived
+          (second_counted st hd before behind done.sheet colour shown given a c.is_some.result c.is_some.ensures c.after_second-self.ensures);
     }
