@@ -106,6 +106,7 @@ impl<S: Strategy, H: LampWords> Run<S, H> {
         ensures goes_on { (s : S) (h : History) → RanThrough S.Strategy H.LampHead self.old s h → RanThrough S.Strategy H.LampHead self.new s (extended (take result acts.now) (take result answers.new) h) }
     {
         let count = acts.len().min(answers.len());
+        // By index: of what is written through a `zip` over `iter_mut` nothing is known after the loop.
         for i in 0..count {
             answers[i] = self.act(acts[i]);
         }

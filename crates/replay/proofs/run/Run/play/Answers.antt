@@ -1,10 +1,7 @@
-use Rattle.std.proofs.Common.{◌≡◌, ◌<◌, length, take, drop, refl, subst, arith}
+use Rattle.std.proofs.Common.{◌≡◌, ◌<◌, length, take, drop, subst, arith}
 use Rattle.replay.specs.Played.{Played}
 use Rattle.replay.proofs.Playing.{played_more, goes_through, rest_more}
 use Rattle.replay.proofs.run.Run.play.Goals as goal
-
-pub loop-i-init : goal.loop-i-init
-loop-i-init g c = (refl, refl)
 
 pub loop-i-preserved : goal.loop-i-preserved
 loop-i-preserved g c =
