@@ -17,10 +17,10 @@ fn start(rt: &HostRuntime) -> Result<(), Stop> {
     let _program = args.next();
     match (args.next(), args.next()) {
         (None, _) => run(rt, rt.stdin(), true),
-        (Some(path), None) => match File::open(rt, path.as_str()) {
-            Ok(file) => run(rt, file, false),
-            Err(error) => Err(Stop::Unreadable(path, error)),
-        },
+        (Some(path), None) => {
+            let file = File::open(rt, path.as_str()).map_err(|e| Stop::Unreadable(path, e))?;
+            run(rt, file, false)
+        }
         (Some(_), Some(_)) => Err(Stop::Usage),
     }
 }

@@ -32,10 +32,8 @@ impl<R: Read + Drop> Rows<R> {
         }
         let first = self.number == 0;
         self.number = self.number.saturating_add(1);
-        match read_row(row_text(self.raw.as_slice(), first)) {
-            Ok(row) => Ok(Some(row)),
-            Err(fault) => Err(self.malformed(Fault::Row(fault))),
-        }
+        let row = read_row(row_text(self.raw.as_slice(), first)).map_err(|e| self.malformed(e))?;
+        Ok(Some(row))
     }
 
     // Has no row been read?
@@ -44,7 +42,7 @@ impl<R: Read + Drop> Rows<R> {
     }
 
     // The end of the run at this row.
-    pub(crate) fn malformed(&self, fault: Fault) -> Stop {
-        Stop::Malformed(self.number, fault)
+    pub(crate) fn malformed(&self, fault: impl Into<Fault>) -> Stop {
+        Stop::Malformed(self.number, fault.into())
     }
 }

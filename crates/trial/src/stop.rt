@@ -2,71 +2,38 @@
 use plan::row::RowFault;
 use replay::setup::Misplaced;
 use std::alloc::AllocError;
-use std::{fmt, io};
+use std::io;
+use thiserror::Error;
 
 // What is wrong with a row of the plan.
-#[derive(Clone, Copy)]
+#[derive(Clone, Copy, Debug, Error)]
 pub enum Fault {
-    Row(RowFault),
-    Misplaced(Misplaced),
+    #[error("{0}")]
+    Row(#[from] RowFault),
+    #[error("{0}")]
+    Misplaced(#[from] Misplaced),
+    #[error("command lines and breaker resets are not built yet")]
     NotBuilt,
 }
 
 // Why a run ends early; a row with its number.
-#[derive(Drop)]
+#[derive(Debug, Drop, Error)]
 pub enum Stop {
+    #[error("usage: trial PLAN, or trial < PLAN: replays the plan and writes its log to standard output")]
     Usage,
+    #[error("{0}: {1}")]
     Unreadable(String, io::Error),
-    Io(io::Error),
+    #[error("{0}")]
+    Io(#[from] io::Error),
+    #[error("row {0}: {1}")]
     Malformed(u64, Fault),
+    #[error("the sheet is refused")]
     SheetRefused,
 }
 
-impl From<io::Error> for Stop {
-    fn from(error: io::Error) -> Stop {
-        Stop::Io(error)
-    }
-}
-
+// Memory that runs out is told as an error of input and output.
 impl From<AllocError> for Stop {
     fn from(error: AllocError) -> Stop {
         Stop::Io(io::Error::from(error))
-    }
-}
-
-impl From<RowFault> for Fault {
-    fn from(fault: RowFault) -> Fault {
-        Fault::Row(fault)
-    }
-}
-
-impl From<Misplaced> for Fault {
-    fn from(fault: Misplaced) -> Fault {
-        Fault::Misplaced(fault)
-    }
-}
-
-impl fmt::Display for Fault {
-    fn fmt<W: fmt::Write>(&self, f: &mut fmt::Formatter<W>) -> fmt::Result {
-        match self {
-            Fault::Row(fault) => write!(f, "{fault}"),
-            Fault::Misplaced(fault) => write!(f, "{fault}"),
-            Fault::NotBuilt => write!(f, "command lines and breaker resets are not built yet"),
-        }
-    }
-}
-
-impl fmt::Display for Stop {
-    fn fmt<W: fmt::Write>(&self, f: &mut fmt::Formatter<W>) -> fmt::Result {
-        match self {
-            Stop::Usage => write!(
-                f,
-                "usage: trial PLAN, or trial < PLAN: replays the plan and writes its log to standard output"
-            ),
-            Stop::Unreadable(path, error) => write!(f, "{path}: {error}"),
-            Stop::Io(error) => write!(f, "{error}"),
-            Stop::Malformed(number, fault) => write!(f, "row {number}: {fault}"),
-            Stop::SheetRefused => write!(f, "the sheet is refused"),
-        }
     }
 }
