@@ -12,7 +12,8 @@ use Rattle.observer.specs.Totals.{Shown, observer_of, unless_taken, refusals_in}
 use Rattle.replay.specs.declared.answered.Reply.{Reply}
 use Rattle.replay.specs.declared.run.Run.{Run}
 use Rattle.replay.specs.Acts.{replied_in}
-use Rattle.replay.specs.Played.{GoesOn, RanThrough}
+use Rattle.station.specs.Station.{GoesOn}
+use Rattle.replay.specs.Played.{RanThrough}
 
 -- a reply is kept of a line that was taken, and of no other
 pub kept_of_taken : (r : Result Reply Refused) → is_ok r ≡ is_ok (replied_in r)

@@ -9,7 +9,7 @@ use Rattle.control.specs.Seconds.{period_put, alarm_put}
 use Rattle.runlaw.specs.History as history
 use Rattle.runlaw.specs.Log.{log}
 use Rattle.station.specs.declared.station.Station.{Station}
-use Rattle.station.specs.Station.{model, Stands, Lived, view_of}
+use Rattle.station.specs.Station.{model, Stands, Lived, GoesOn, view_of}
 use Rattle.observer.specs.Totals.{observer_of, refusals_in}
 use Rattle.replay.specs.declared.act.Act.{Act}
 use Rattle.replay.specs.declared.act.Act.TheVariants.{Second, Line, Reset}
@@ -23,28 +23,24 @@ use Rattle.replay.specs.declared.run.Run.{Run}
 use Rattle.replay.specs.Acts.{WordGiven, given_in, buffer_for, replied_in, act_of}
 
 module _ {S H : Type 0} (st : StrategyMeaning S) (hd : HeadMeaning H) (before : Station S H) where
-  -- every history that was lived goes on by the act
-  abbrev pub GoesOn : Station S H → history.Act → Type 0
-  GoesOn behind act = (s : S) (h : history.History) → Lived st hd before s h → Lived st hd behind s (act ∷ h)
-
   -- a second: its word, the records that it put, and the history
   pub record SecondPlayed (second : SecondAct) (behind : Station S H) (r : SecondOutcome) : Type 0 where
     pub sheet : behind.sheet ≡ before.sheet
     pub word : WordGiven hd before.head second.word r.word
     pub period : (ss : List Readings) → Stands before ss → r.period ≡ period_put st before.sheet (model hd before ss) (given_in second r.word)
     pub alarm : (ss : List Readings) → Stands before ss → r.alarm ≡ alarm_put st before.sheet (model hd before ss) (given_in second r.word)
-    pub lived : GoesOn behind (history.Second (given_in second r.word) r.answer (hd.colour behind.head))
+    pub lived : GoesOn st hd before behind (history.Second (given_in second r.word) r.answer (hd.colour behind.head))
 
   -- a line with an answer buffer: what it then holds, and the history
   pub record LinePlayed (line buffer : List ℕ) (behind : Station S H) (buffer' : List ℕ) (r : Result Reply Refused) : Type 0 where
     pub sheet : behind.sheet ≡ before.sheet
     pub bytes : buffer' ≡ buffer_after (replied_in r) buffer
-    pub lived : GoesOn behind (history.Line line buffer buffer' (replied_in r) (hd.colour behind.head))
+    pub lived : GoesOn st hd before behind (history.Line line buffer buffer' (replied_in r) (hd.colour behind.head))
 
   -- a breaker reset: the history
   pub record ResetPlayed (behind : Station S H) (r : Result (Unit {0}) Refused) : Type 0 where
     pub sheet : behind.sheet ≡ before.sheet
-    pub lived : GoesOn behind (history.Reset r (hd.colour behind.head))
+    pub lived : GoesOn st hd before behind (history.Reset r (hd.colour behind.head))
 
   -- an act has an outcome of its own kind, and is played as that says
   abbrev pub PlayedAs : Act → Outcome → Station S H → Type 0

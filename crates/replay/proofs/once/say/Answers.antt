@@ -3,7 +3,8 @@ use Rattle.std.proofs.lemmas.Result.{err_from_is_err_and}
 use Rattle.control.specs.Lines.{buffer_after}
 use Rattle.runlaw.specs.History.{Line}
 use Rattle.station.proofs.Lines.{line_written}
-use Rattle.replay.specs.Played.{GoesOn, LinePlayed}
+use Rattle.station.specs.Station.{GoesOn}
+use Rattle.replay.specs.Played.{LinePlayed}
 use Rattle.replay.specs.Replies.{reply_in}
 use Rattle.replay.proofs.once.say.Goals as goal
 
