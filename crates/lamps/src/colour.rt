@@ -3,7 +3,7 @@ ghost use Rattle.std.specs.Prelude.{◌≡◌};
 ghost use Rattle.lamps.specs.Sets.{number_of, lamps_of};
 
 // A lamp of the head.
-#[derive(Clone, Copy, PartialEq)]
+#[derive(Clone, Copy, Debug, PartialEq, Eq)]
 pub enum Lamp {
     Red,
     FixedAmber,
@@ -24,7 +24,7 @@ impl Lamp {
 }
 
 // A colour that a head can be ordered to show.
-#[derive(Clone, Copy, Debug, PartialEq)]
+#[derive(Clone, Copy, Debug, PartialEq, Eq)]
 pub enum Colour {
     Dark,
     Red,

@@ -1,10 +1,79 @@
 // The current head: its words have the current of each lamp.
-use crate::output::LampOutput;
+ghost use Rattle.std.specs.Prelude.{◌≡◌, leb};
+ghost use Rattle.lamps.specs.Words.{current_of, lit_part, current_set, current_word};
+ghost use Rattle.lamps.specs.Meanings.{current_code};
 
-pub mod calls;
+use crate::code::LampCode;
+use crate::coded::CodedHead;
+use crate::colour::Lamp;
 
-// A head whose words have the current of red in bits 0-7, of fixed amber in 8-15 and of flashing amber in 16-23.
-#[derive(Drop)]
-pub struct CurrentHead {
-    output: LampOutput,
+// The least current of a lamp that is lit.
+const LIT_FROM: u32 = 20;
+
+// Words that have the current of red in bits 0-7, of fixed amber in 8-15 and of flashing amber in 16-23.
+#[derive(Clone, Copy, Debug)]
+pub struct CurrentCode;
+
+// The head that is driven by such words.
+pub type CurrentHead = CodedHead<CurrentCode>;
+
+// The current of a lamp in a word.
+fn current_of(word: u32, lamp: Lamp) -> u32
+    ensures { result ≡ current_of word lamp }
+{
+    match lamp {
+        Lamp::Red => word % 256,
+        Lamp::FixedAmber => word / 256 % 256,
+        Lamp::FlashingAmber => word / 65_536 % 256,
+    }
+}
+
+// Whether a lamp with this current is lit.
+fn is_lit(current: u32) -> bool
+    ensures { result ≡ leb 20 current }
+{
+    current >= LIT_FROM
+}
+
+// The lamp's number if the word has it lit, else 0.
+fn lit_part(word: u32, lamp: Lamp) -> u32
+    ensures { result ≡ lit_part word lamp }
+{
+    if is_lit(current_of(word, lamp)) {
+        lamp.number()
+    } else {
+        0
+    }
+}
+
+// The set of the lamps that a word has lit.
+fn lit_set(word: u32) -> u32
+    ensures { result ≡ current_set word }
+{
+    lit_part(word, Lamp::Red)
+        + lit_part(word, Lamp::FixedAmber)
+        + lit_part(word, Lamp::FlashingAmber)
+}
+
+// A word with the least current for each lamp of the set.
+fn word_of(lit: u32) -> u32
+    ensures { result ≡ current_word lit }
+{
+    LIT_FROM * (lit % 2) + 256 * (LIT_FROM * (lit / 2 % 2)) + 65_536 * (LIT_FROM * (lit / 4 % 2))
+}
+
+impl LampCode for CurrentCode {
+    ghost shows = { current_code.shows };
+
+    ghost within = { current_code.within };
+
+    ghost every = { current_code.every };
+
+    fn read(word: u32) -> u32 {
+        lit_set(word)
+    }
+
+    fn word_for(lit: u32) -> u32 {
+        word_of(lit % 8)
+    }
 }

@@ -8,6 +8,7 @@ use crate::colour::Colour;
 
 // A head's meaning is the colour ordered, whether it is cut, and the set of lamps that each 32-bit lamp word stands for.
 // Every word stands for a set of 0 to 7, and every set of 0 to 7 has a word.
+// A set is a number, since the station's rules write a set of lamps as the sum of its lamps' numbers.
 pub trait LampHead {
     ghost colour: { Self → Colour };
 

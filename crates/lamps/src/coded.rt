@@ -1,0 +1,65 @@
+// A head whose words follow a code.
+ghost use Rattle.std.specs.Prelude.{◌≡◌};
+ghost use Rattle.lamps.specs.Meanings.{new_head, coded_meaning};
+
+use crate::code::LampCode;
+use crate::colour::Colour;
+use crate::head::{LampHead, LampWords};
+use std::marker::PhantomData;
+
+// The colour ordered, or none while the head is cut.
+#[derive(Debug, Drop)]
+pub struct CodedHead<C> {
+    colour: Option<Colour>,
+    code: PhantomData<C>,
+}
+
+impl<C: LampCode> CodedHead<C> {
+    // A head that is dark and not cut.
+    pub fn new() -> CodedHead<C>
+        ensures { result ≡ new_head }
+    {
+        CodedHead {
+            colour: Some(Colour::Dark),
+            code: PhantomData,
+        }
+    }
+}
+
+impl<C: LampCode> LampHead for CodedHead<C> {
+    ghost colour = { (coded_meaning C.LampCode).colour };
+
+    ghost is_cut = { (coded_meaning C.LampCode).is_cut };
+
+    ghost shows = { (coded_meaning C.LampCode).shows };
+
+    ghost within = { (coded_meaning C.LampCode).within };
+
+    ghost every = { (coded_meaning C.LampCode).every };
+
+    fn order(&mut self, chosen: Colour) {
+        self.colour = self.colour.and(Some(chosen));
+    }
+
+    fn ordered(&self) -> Colour {
+        self.colour.unwrap_or(Colour::Dark)
+    }
+
+    fn read(&self, word: u32) -> u32 {
+        C::read(word)
+    }
+
+    fn cut(&mut self) {
+        self.colour = None;
+    }
+
+    fn restore(&mut self) {
+        self.colour = Some(Colour::Dark);
+    }
+}
+
+impl<C: LampCode> LampWords for CodedHead<C> {
+    fn word_for(&self, lit: u32) -> u32 {
+        C::word_for(lit)
+    }
+}
