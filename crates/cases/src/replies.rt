@@ -2,7 +2,7 @@
 ghost use Rattle.std.specs.Prelude.{◌≤◌, length};
 
 use reply::digits::{digit_count, lay_digits};
-use reply::text::{cycles_reply, status_reply};
+use reply::text::{NoRoom, cycles_reply, status_reply};
 use std::process::Abort;
 use std::test::Fail;
 
@@ -85,7 +85,7 @@ fn figures_at_every_end(rt: HostRuntime) -> Result<(), Fail> {
 // What a call answered, and what it left in a buffer of which it had the first bytes.
 fn replied(
     rt: &impl Abort,
-    answer: Result<usize, usize>,
+    answer: Result<usize, NoRoom>,
     buffer: &[u8],
     room: usize,
     text: &[u8],
@@ -94,7 +94,7 @@ fn replied(
         assert_eq!(rt; answer, Ok(text.len()));
         holds(rt, buffer, 0, text)
     } else {
-        assert_eq!(rt; answer, Err(text.len()));
+        assert_eq!(rt; answer, Err(NoRoom { needed: text.len() }));
         holds(rt, buffer, 0, b"")
     }
 }

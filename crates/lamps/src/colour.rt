@@ -23,7 +23,7 @@ impl Lamp {
     }
 }
 
-// A colour that a head can be ordered to show.
+// A colour that a head can be ordered to show. The station's rules have dark as a colour, so it is no optional lamp.
 #[derive(Clone, Copy, Debug, PartialEq, Eq)]
 pub enum Colour {
     Dark,

@@ -1,30 +1,16 @@
 -- A copy of one list over another, of two one after the other, and from a place on.
-use Rattle.std.proofs.Common.{◌≡◌, ℕ, suc, ◌+◌, ◌-◌, ◌<◌, ◌≤◌, min, List, [], ◌∷◌, ◌++◌, length, get_or, take, drop, set, sym, ap, ◌∙◌, inl, inr, arith}
+use Rattle.std.proofs.Common.{◌≡◌, ℕ, ◌+◌, ◌-◌, ◌≤◌, min, List, ◌++◌, length, take, drop, sym, ap, ◌∙◌, inl, inr, arith}
 use borrow.Rule.Slice.PartMut.{put_mid}
-use Rattle.std.proofs.lemmas.List.{append-nil, append_assoc, length-append, length-take-le, length-drop, take_at, drop_at, take_all, take_more, drop_more, drop_all, drop-drop, set_at, take-append-le}
+use Rattle.std.proofs.lemmas.List.{append-nil, append_assoc, length-append, length-take-le, length-drop, take_at, drop_at, take_all, take_min, drop_all, drop_min, drop-drop, take-append-le}
+use Rattle.std.proofs.Math.Seq.{take-append-add}
 use Rattle.std.proofs.lemmas.Bool.{cases_lt}
 use Rattle.records.specs.Copied.{copied_count, copied_into}
 
 module _ {A : Type 0} where
-  -- one more element
-  pub copy_more : (s d : List A) (i : ℕ) (y : A) → i < length s → i < length d → y ≡ get_or s i y
-      → set (take i s ++ drop i d) i y ≡ take (i + 1) s ++ drop (i + 1) d
-  copy_more s d i y h k e =
-      let j : i ≤ length s = omega arith in
-      ap (λ (z : List A). set (take i s ++ z) i y) (drop_more d i y k)
-      ∙ set_at (take i s) (get_or d i y) (drop (i + 1) d) y i (length-take-le i s j)
-      ∙ sym (append_assoc (take i s) (y ∷ []) (drop (i + 1) d))
-      ∙ ap (λ (z : A). (take i s ++ (z ∷ [])) ++ drop (i + 1) d) e
-      ∙ ap (λ (z : List A). z ++ drop (i + 1) d) (sym (take_more s i y h))
-
   -- a write to all from a place on
   put_tail : (a k : ℕ) (o t : List A) → length o ≤ a + k → put_mid a k o t ≡ take a o ++ t
   put_tail a k o t e =
       ap (λ (l : List A). take a o ++ (t ++ l)) (drop_all k (drop a o) (simp length-drop (omega arith))) ∙ ap (λ (l : List A). take a o ++ l) (append-nil t)
-
-  take_past : (xs ys : List A) (n : ℕ) → take (length xs + n) (xs ++ ys) ≡ xs ++ take n ys
-  take_past [] ys n = let e : 0 + n ≡ n = omega arith in rw e
-  take_past (x ∷ xs) ys n = let e : suc (length xs) + n ≡ suc (length xs + n) = omega arith in rw e (ap (λ (z : List A). x ∷ z) (take_past xs ys n))
 
   -- the front of two lists joined, where the first is copied whole or nothing of the second is
   take_both : (xs ys : List A) (a b n : ℕ) → a ≡ min (length xs) n → b ≡ min (length ys) (n - a) → take (a + b) (xs ++ ys) ≡ take a xs ++ take b ys
@@ -37,7 +23,7 @@ module _ {A : Type 0} where
     | inr h ↦
         let z : a ≡ length xs = omega arith in
         let w : length xs ≤ a = omega arith in
-        ap (λ m. take (m + b) (xs ++ ys)) z ∙ take_past xs ys b ∙ ap (λ (l : List A). l ++ take b ys) (sym (take_all a xs w))
+        ap (λ m. take (m + b) (xs ++ ys)) z ∙ take-append-add xs ys b ∙ ap (λ (l : List A). l ++ take b ys) (sym (take_all a xs w))
   ]
 
   -- two copies, one after the other, are a copy of the two lists joined: o is the list after the first, rest what the second was lent, t that after it
@@ -67,18 +53,6 @@ module _ {A : Type 0} where
         ∙ sym (append_assoc (take a xs) (take b ys) (drop (a + b) d))
         ∙ ap (λ (l : List A). l ++ drop (a + b) d) (sym (take_both xs ys a b (length d) count_a count_b))
         ∙ ap (λ n. take n (xs ++ ys) ++ drop n d) both_count
-
-  take_min : (n : ℕ) (xs : List A) → take (min n (length xs)) xs ≡ take n xs
-  take_min n xs = elim (cases_lt n (length xs)) [
-    | inl h ↦ let e : min n (length xs) ≡ n = omega arith in rw e
-    | inr h ↦ take_all (min n (length xs)) xs (omega arith) ∙ sym (take_all n xs h)
-  ]
-
-  drop_min : (n : ℕ) (xs : List A) → drop (min n (length xs)) xs ≡ drop n xs
-  drop_min n xs = elim (cases_lt n (length xs)) [
-    | inl h ↦ let e : min n (length xs) ≡ n = omega arith in rw e
-    | inr h ↦ drop_all (min n (length xs)) xs (omega arith) ∙ sym (drop_all n xs h)
-  ]
 
   -- a copy into what lies from a place on, which is nothing beyond the end
   module _ (js ks d rest t : List A) (from s r : ℕ) (ek : js ≡ ks) (es : s ≡ min from (length d)) (er : rest ≡ drop s d) (ec : r ≡ copied_count js rest 0) (et : t ≡ copied_into js rest 0) where

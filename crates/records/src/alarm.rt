@@ -6,7 +6,7 @@ use crate::phase::Phase;
 use lamps::colour::Lamp;
 
 // Why a station tripped: the ordered lamp is not lit, or another is.
-#[derive(Clone, Copy, PartialEq)]
+#[derive(Clone, Copy, Debug, PartialEq, Eq)]
 pub enum TripCode {
     NotLit,
     Unwanted,
@@ -25,7 +25,7 @@ impl TripCode {
 }
 
 // A trip: its second, the code with the lamp that it is about, and the phase before.
-#[derive(Clone, Copy, PartialEq)]
+#[derive(Clone, Copy, Debug, PartialEq, Eq)]
 pub struct AlarmRecord {
     pub second: u32,
     pub code: TripCode,

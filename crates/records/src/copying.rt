@@ -1,16 +1,11 @@
 // Copying: from one list into another, and what a ring keeps, oldest first.
+// A ring's work is in functions over a lent slice and plain numbers, so that it also serves numbers that are kept
+// elsewhere than in a ring.
 ghost use Rattle.std.specs.Prelude.{◌≡◌, min, ◌++◌, if◌then◌else◌, nat_lt};
 ghost use Rattle.records.specs.Kept.{place_of, older, newer, kept};
 ghost use Rattle.records.specs.Copied.{copied_count, copied_into};
 
 use crate::putting::{place_of, room_of};
-
-// How many of a source there is room for.
-fn count_into(source: usize, room: usize) -> usize
-    ensures { result ≡ min source room }
-{
-    source.min(room)
-}
 
 // Where a copy into a list of this length begins: at the stated place, or at the end where that lies beyond it.
 fn start_in(length: usize, from: usize) -> usize
@@ -24,10 +19,8 @@ pub fn copy_front<T: Copy>(source: &[T], list: &mut [T]) -> usize
     ensures many { result ≡ copied_count source.now list.old 0 }
     ensures list { list.new ≡ copied_into source.now list.old 0 }
 {
-    let many = count_into(source.len(), list.len());
-    for i in 0..many {
-        list[i] = source[i];
-    }
+    let many = source.len().min(list.len());
+    list[..many].copy_from_slice(&source[..many]);
     many
 }
 
@@ -64,7 +57,7 @@ fn newer_part<T>(places: &[T], next: usize, put: u32) -> &[T]
     ensures { result.now ≡ newer places.now next put }
 {
     let room = room_of(places.len());
-    &places[0..place_of(room, next, put)]
+    &places[..place_of(room, next, put)]
 }
 
 // Copies what a ring keeps, oldest first, into a list from a place to the list's end, and answers how many.

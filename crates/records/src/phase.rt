@@ -1,7 +1,7 @@
 // The phases of a station.
 
 // What a station is doing.
-#[derive(Clone, Copy, PartialEq)]
+#[derive(Clone, Copy, Debug, PartialEq, Eq)]
 pub enum Phase {
     Standby,
     OpeningFlash,

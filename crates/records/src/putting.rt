@@ -1,9 +1,10 @@
-// Putting into a ring: functions over the places that it was lent and its two numbers.
+// Putting into a ring: functions over the places that it was lent and its two numbers, which may also be kept elsewhere
+// than in a ring.
 ghost use Rattle.std.specs.Prelude.{◌≡◌, ◌+◌, min, [], ◌∷◌, ◌++◌, slice_set};
 ghost use Rattle.records.specs.Kept.{count_after, room_of, place_of, following, next_after, places_after, kept, last_of};
 
 // The greatest count.
-const MOST_COUNTED: usize = 4_294_967_295;
+const MOST_COUNTED: usize = u32::MAX as usize;
 
 // One more, but no count passes the greatest.
 pub fn count_after(put: u32) -> u32
@@ -26,7 +27,7 @@ pub(crate) fn kept_count(places: usize, put: u32) -> usize
     room_of(places).min(put as usize)
 }
 
-// The place where an element is put.
+// The place where an element is put. Comparisons say it shorter than options with `filter` and `unwrap_or` would.
 pub(crate) fn place_of(room: usize, next: usize, put: u32) -> usize
     ensures { result ≡ place_of room next put }
 {
@@ -48,7 +49,7 @@ pub(crate) fn place_after(room: usize, place: usize) -> usize
     if behind < room { behind } else { 0 }
 }
 
-// Writes an element at a place, if there is such a place.
+// Writes an element at a place, if there is such a place. `get_mut` promises nothing of what the slice ends as.
 fn write<T: Copy>(places: &mut [T], place: usize, x: T)
     ensures { places.new ≡ slice_set places.old place x }
 {

@@ -1,2 +1,1 @@
-pub mod Places
-pub mod Fitting
+pub mod Appended

@@ -1,87 +1,77 @@
 // The replies to the status readings, as text at the front of a buffer.
-ghost use Rattle.std.specs.Prelude.{◌≡◌, ◌+◌, ◌-◌, ◌≤◌, ◌++◌, length, drop, IfOk, if◌then◌else◌, Ok, Err, codes, decimal, nat_lt};
-ghost use Rattle.reply.specs.Laying.{laid};
+ghost use Rattle.std.specs.Prelude.{◌≡◌, ◌≤◌, ◌++◌, length, IfOk};
+ghost use Rattle.std.specs.Fmt.InlineText.{inline_text};
 ghost use Rattle.reply.specs.Replies.{status_text, cycles_text, fitted, written};
 
-use crate::digits::{digit_count, lay_figure};
+use itoa::Buffer;
+use std::fmt::InlineText;
 
 // What stands before the running cycle.
-const CYCLE_NAME: &[u8] = b"AM=F.1 CY=";
+const CYCLE_NAME: &str = "AM=F.1 CY=";
 
 // What stands before the window's flash.
-const WINDOW_FLASH_NAME: &[u8] = b" JC=";
+const WINDOW_FLASH_NAME: &str = " JC=";
 
-// The bytes of a reply where there is room for them, else those needed.
-fn fit(room: usize, needed: usize) -> Result<usize, usize>
-    ensures { result ≡ (if nat_lt room needed then Err needed else Ok needed) }
+// The most bytes of a name or a figure.
+const LONGEST: usize = 10;
+
+// Room for four of them, and one byte more, so that none is cut.
+const ROOM: usize = 4 * LONGEST + 1;
+
+// A buffer is too short for a reply, which needs so many bytes.
+#[derive(Clone, Copy, Debug, PartialEq, Eq)]
+pub struct NoRoom {
+    pub needed: usize,
+}
+
+// Writes a reply at the buffer's front: the number of its bytes, or, with nothing written, those needed.
+fn write_reply(text: &[u8], buffer: &mut [u8]) -> Result<usize, NoRoom>
+    ensures result { result ≡ fitted (length buffer.old) text.now }
+    ensures bytes { buffer.new ≡ written text.now buffer.old }
 {
-    if room < needed {
-        Err(needed)
-    } else {
-        Ok(needed)
+    let needed = text.len();
+    if buffer.len() < needed {
+        return Err(NoRoom { needed });
     }
-}
-
-// Lays a text before a place where there is room for it, and answers its first byte's place.
-fn lay_text(buffer: &mut [u8], end: usize, text: &[u8]) -> usize
-    requires room { length text.now ≤ end }
-    requires within { end ≤ length buffer.old }
-    ensures place { result ≡ end - length text.now }
-    ensures bytes { buffer.new ≡ laid end text.now buffer.old }
-{
-    let place = end - text.len();
-    buffer[place..end].copy_from_slice(text);
-    place
-}
-
-// Lays a figure under its name, as in ` JC=4`, before a place where there is room for both, and answers the name's place.
-fn lay_field(buffer: &mut [u8], end: usize, name: &[u8], figure: u32) -> usize
-    requires room { length name.now + length (decimal figure) ≤ end }
-    requires within { end ≤ length buffer.old }
-    ensures place { result ≡ end - (length name.now + length (decimal figure)) }
-    ensures tail { drop result buffer.new ≡ name.now ++ (decimal figure ++ drop end buffer.old) }
-{
-    let place = lay_figure(buffer, end, figure);
-    lay_text(buffer, place, name)
-}
-
-// Lays the reply with these figures at the buffer's front, where it ends just before this place.
-fn lay_cycles(buffer: &mut [u8], end: usize, cycle: u32, window_flash: u32)
-    requires room { end ≡ 14 + (length (decimal cycle) + length (decimal window_flash)) }
-    requires within { end ≤ length buffer.old }
-    ensures { buffer.new ≡ codes "AM=F.1 CY=" ++ (decimal cycle ++ (codes " JC=" ++ (decimal window_flash ++ drop end buffer.old))) }
-{
-    let place = lay_field(buffer, end, WINDOW_FLASH_NAME, window_flash);
-    lay_field(buffer, place, CYCLE_NAME, cycle);
-}
-
-// The bytes of the reply with these figures.
-fn cycles_length(cycle: u32, window_flash: u32) -> usize
-    ensures count { result ≡ 14 + (length (decimal cycle) + length (decimal window_flash)) }
-    ensures few { result ≤ 34 }
-{
-    CYCLE_NAME.len() + WINDOW_FLASH_NAME.len() + digit_count(cycle) + digit_count(window_flash)
+    buffer[..needed].copy_from_slice(text);
+    Ok(needed)
 }
 
 // The letter of the state, as a reply: the number of its bytes, or, with nothing written, those needed.
-pub fn status_reply(letter: u8, buffer: &mut [u8]) -> Result<usize, usize>
+pub fn status_reply(letter: u8, buffer: &mut [u8]) -> Result<usize, NoRoom>
     ensures result { result ≡ fitted (length buffer.old) (status_text letter) }
     ensures bytes { buffer.new ≡ written (status_text letter) buffer.old }
     ensures few { IfOk result (λ n. n ≤ 34) }
 {
-    let needed = fit(buffer.len(), 1)?;
-    buffer[0] = letter;
-    Ok(needed)
+    write_reply(&[letter], buffer)
+}
+
+// A text with a name or a figure behind it.
+fn with_part(text: InlineText<{ ROOM }>, part: &str) -> InlineText<{ ROOM }>
+    requires short { length part.now ≤ 10 }
+    requires room { length (inline_text text) ≤ 30 }
+    ensures { inline_text result ≡ inline_text text ++ part.now }
+{
+    text.and_str(part, LONGEST)
+}
+
+// The running cycle and the window's flash, as a text, put together by parts, since a `write!` has an error to answer.
+fn cycles_text(cycle: u32, window_flash: u32) -> InlineText<{ ROOM }>
+    ensures text { inline_text result ≡ cycles_text cycle window_flash }
+    ensures few { length (inline_text result) ≤ 34 }
+{
+    let text = with_part(InlineText::new(), CYCLE_NAME);
+    let text = with_part(text, Buffer::new().format(cycle));
+    let text = with_part(text, WINDOW_FLASH_NAME);
+    with_part(text, Buffer::new().format(window_flash))
 }
 
 // The running cycle and the window's flash, as a reply, as in `AM=F.1 CY=60 JC=4`: the number of its bytes, or, with
 // nothing written, those needed.
-pub fn cycles_reply(cycle: u32, window_flash: u32, buffer: &mut [u8]) -> Result<usize, usize>
+pub fn cycles_reply(cycle: u32, window_flash: u32, buffer: &mut [u8]) -> Result<usize, NoRoom>
     ensures result { result ≡ fitted (length buffer.old) (cycles_text cycle window_flash) }
     ensures bytes { buffer.new ≡ written (cycles_text cycle window_flash) buffer.old }
     ensures few { IfOk result (λ n. n ≤ 34) }
 {
-    let needed = fit(buffer.len(), cycles_length(cycle, window_flash))?;
-    lay_cycles(buffer, needed, cycle, window_flash);
-    Ok(needed)
+    write_reply(cycles_text(cycle, window_flash).as_str().as_bytes(), buffer)
 }

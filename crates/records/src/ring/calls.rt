@@ -34,9 +34,7 @@ impl<'a, T: Copy> Ring<'a, T> {
         ensures places { self.new.places.now ≡ places_after self.old.places.now self.old.next self.old.put x }
         ensures lent { self.new.places.ghost_name ≡ self.old.places.ghost_name }
     {
-        let next = self.next;
-        let put = self.put;
-        (self.next, self.put) = put_in(self.places, next, put, x);
+        (self.next, self.put) = put_in(self.places, self.next, self.put, x);
     }
 
     // How many were put in all; the count stops at 4,294,967,295.

@@ -10,16 +10,16 @@ use control::answer::Refused;
 use control::lines::check_order;
 use orders::order::Order;
 use orders::reader::read_order;
-use reply::text::{cycles_reply, status_reply};
+use reply::text::{NoRoom, cycles_reply, status_reply};
 
 // A reply that the buffer does not hold is refused with the bytes needed.
-fn unless_long(written: Result<usize, usize>) -> Result<usize, Refused>
+fn unless_long(written: Result<usize, NoRoom>) -> Result<usize, Refused>
     ensures result { result ≡ too_long written }
     ensures few { IfOk written (λ n. n ≤ 34) → IfOk result (λ n. n ≤ 34) }
 {
     match written {
         Ok(bytes) => Ok(bytes),
-        Err(needed) => Err(Refused::Buffer(needed)),
+        Err(NoRoom { needed }) => Err(Refused::Buffer(needed)),
     }
 }
 
