@@ -1,9 +1,11 @@
 -- The laws of cutting a line into tokens, one for each kind of byte that comes next.
-use Rattle.std.proofs.Common.{◌≡◌, ℕ, suc, ◌+◌, ◌<◌, ◌≤◌, true, false, not, List, [], ◌∷◌, length, get_or, take, drop, sym, refl, ap, ◌∙◌, ⊎_elim, add-one, one-add, arith}
-use Rattle.std.specs.List.{prefix_len}
-use Rattle.std.proofs.lemmas.List.{drop_more, drop-drop, drop_all, get_or-drop, length-drop, length-take-le}
+use Rattle.std.proofs.Common.{◌≡◌, ℕ, suc, ◌+◌, ◌<◌, ◌≤◌, true, false, not, List, [], ◌∷◌, length, get_or, take, drop, position, cond, Some, None, Bool, ltb, sym, refl, ap, ◌∙◌, ⊎_elim, add-one, one-add, arith}
+use Rattle.std.specs.List.{prefix_len, position_or_len}
+use Rattle.std.proofs.lemmas.List.{drop_more, drop-drop, drop_all, get_or-drop, length-take-le}
 use Rattle.std.proofs.lemmas.List.Sums.{prefix_len-le-length}
-use Rattle.std.proofs.lemmas.Bool.{cases_Bool, or_parts, not_from_true, not_from_false, cond-true, cond-false, false≢true}
+use Rattle.std.proofs.lemmas.List.Quantifiers.{position-Some}
+use Rattle.std.proofs.lemmas.Option.{cond_some, none-some}
+use Rattle.std.proofs.lemmas.Bool.{ltb-false, cases_Bool, or_parts, not_from_true, not_from_false, cond-true, cond-false, false≢true}
 use Rattle.std.proofs.lemmas.Bool.Decides.{nat_tests}
 use Rattle.orders.specs.Tokens.{Part, part, in_word, is_mark, in_token, word_here, joined, tokens_from}
 
@@ -35,29 +37,16 @@ unfolding tokens_from
 joined_law n b bs h = let k = word_no_mark b h in rw (k, h)
 
 -- bytes between tokens are passed over
-pub between_law : (n : ℕ) (xs : List ℕ) → tokens_from n xs ≡ tokens_from (n + prefix_len (λ b. not (in_token b)) xs) (drop (prefix_len (λ b. not (in_token b)) xs) xs)
+between_law : (n : ℕ) (xs : List ℕ) → tokens_from n xs ≡ tokens_from (n + position_or_len in_token xs) (drop (position_or_len in_token xs) xs)
 between_law n [] = nil_law n ∙ sym (nil_law (n + 0))
 between_law n (b ∷ bs) =
     ⊎_elim
-    (λ e.
-    let q : prefix_len (λ b. not (in_token b)) (b ∷ bs) ≡ 0 = cond-false (not (in_token b)) _ _ (not_from_true (in_token b) e) in
+    (λ e. let q : position_or_len in_token (b ∷ bs) ≡ 0 = cond-false (not (in_token b)) _ _ (not_from_true (in_token b) e) in
     ap (λ m. tokens_from m (b ∷ bs)) (omega arith) ∙ sym (ap (λ m. tokens_from (n + m) (drop m (b ∷ bs))) q))
     (λ e.
-    let k : ℕ = prefix_len (λ b. not (in_token b)) bs in
-    let q : prefix_len (λ b. not (in_token b)) (b ∷ bs) ≡ suc k = cond-true (not (in_token b)) _ _ (not_from_false (in_token b) e) ∙ one-add k in
+    let k : ℕ = position_or_len in_token bs in
+    let q : position_or_len in_token (b ∷ bs) ≡ suc k = cond-true (not (in_token b)) _ _ (not_from_false (in_token b) e) ∙ one-add k in
     skip_law n b bs e ∙ between_law (suc n) bs ∙ ap (λ m. tokens_from m (drop k bs)) (omega arith) ∙ sym (ap (λ m. tokens_from (n + m) (drop m (b ∷ bs))) q))
-    (cases_Bool (in_token b))
-
--- what comes next once the bytes between tokens are passed over is of a token
-pub between_stops : (xs : List ℕ) → prefix_len (λ b. not (in_token b)) xs < length xs → in_token (get_or xs (prefix_len (λ b. not (in_token b)) xs) 0) ≡ true
-between_stops [] h = absurd (omega arith)
-between_stops (b ∷ bs) h =
-    ⊎_elim
-    (λ e. let q : prefix_len (λ b. not (in_token b)) (b ∷ bs) ≡ 0 = cond-false (not (in_token b)) _ _ (not_from_true (in_token b) e) in ap (λ m. in_token (get_or (b ∷ bs) m 0)) q ∙ e)
-    (λ e.
-    let k : ℕ = prefix_len (λ b. not (in_token b)) bs in
-    let q : prefix_len (λ b. not (in_token b)) (b ∷ bs) ≡ suc k = cond-true (not (in_token b)) _ _ (not_from_false (in_token b) e) ∙ one-add k in
-    ap (λ m. in_token (get_or (b ∷ bs) m 0)) q ∙ between_stops bs (omega arith))
     (cases_Bool (in_token b))
 
 word_law : (n b : ℕ) (bs : List ℕ) → in_word b ≡ true → tokens_from n (b ∷ bs) ≡ part (b ∷ take (prefix_len in_word bs) bs) n ∷ tokens_from (suc n + prefix_len in_word bs) (drop (prefix_len in_word bs) bs)
@@ -92,16 +81,27 @@ module _ (line : List ℕ) (n : ℕ) (in-line : n < length line) where
       ap (λ l. part (take k (drop n line)) n ∷ tokens_from (n + k) l) (drop-drop k n line) ∙
       sym (λ i. part (e i) n ∷ tokens_from (n + size i) (drop (n + size i) line))
 
--- m is where the bytes between tokens end that run on from place n
-module _ (line : List ℕ) (n m : ℕ) (ends : m ≡ n + prefix_len (λ b. not (in_token b)) (drop n line)) where
-  pub between_at : tokens_from n (drop n line) ≡ tokens_from m (drop m line)
-  between_at = between_law n (drop n line) ∙ ap (tokens_from _) (drop-drop _ n line) ∙ ap (λ k. tokens_from k (drop k line)) (sym ends)
+-- no token begins from place n on
+pub none_at : (line : List ℕ) (n : ℕ) → None ≡ position in_token (drop n line) → tokens_from n (drop n line) ≡ []
+none_at line n e = between_law n xs ∙ ap (tokens_from (n + k)) (drop_all k xs (go (ltb k (length xs)) refl e)) ∙ nil_law (n + k)
+  where
+    xs : List ℕ
+    xs = drop n line
 
-  pub none_at : length line ≤ m → tokens_from n (drop n line) ≡ []
-  none_at h = between_at ∙ ap (tokens_from m) (drop_all m line h) ∙ nil_law m
+    k : ℕ
+    k = position_or_len in_token xs
 
-  pub token_here : m < length line → in_token (get_or line m 0) ≡ true
-  token_here h =
-      ap (λ k. in_token (get_or line k 0)) ends ∙
-      ap in_token (sym (get_or-drop n line (prefix_len (λ b. not (in_token b)) (drop n line)) 0)) ∙
-      between_stops (drop n line) (simp length-drop (omega arith))
+    go : (t : Bool) → ltb k (length xs) ≡ t → None ≡ cond t (Some k) None → length xs ≤ k
+    go true l h = absurd (none-some k h)
+    go false l h = ltb-false k (length xs) l
+
+-- a token begins k bytes behind place n
+module _ (line : List ℕ) (n k : ℕ) (here : Some k ≡ position in_token (drop n line)) where
+  pub between_at : tokens_from n (drop n line) ≡ tokens_from (n + k) (drop (n + k) line)
+  between_at =
+      between_law n (drop n line) ∙
+      ap (λ m. tokens_from (n + m) (drop m (drop n line))) (cond_some _ _ k (sym here)).1 ∙
+      ap (tokens_from (n + k)) (drop-drop k n line)
+
+  pub token_here : in_token (get_or line (n + k) 0) ≡ true
+  token_here = ap in_token (sym (get_or-drop n line k 0)) ∙ (position-Some in_token (drop n line) k 0 (sym here)).1

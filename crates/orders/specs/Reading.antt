@@ -1,5 +1,5 @@
 -- What the reader's own values stand for, and what its steps answer.
-use Rattle.std.specs.Prelude.{◌≡◌, ℕ, ◌+◌, min, Bool, false, cond, not, List, [], ◌∷◌, ◌++◌, length, drop, Some, None, Ok, Err, codes, Option, Result}
+use Rattle.std.specs.Prelude.{◌≡◌, ℕ, ◌+◌, min, Bool, false, cond, List, [], ◌∷◌, ◌++◌, length, drop, Some, None, Ok, Err, codes, Option, Result}
 use Prim.Native.String.{String}
 use Rattle.std.specs.Str.{bytes_eq}
 use Rattle.orders.specs.declared.fault.OrderFault.{OrderFault}
@@ -12,17 +12,9 @@ use Rattle.orders.specs.declared.order.Order.{Order}
 use Rattle.orders.specs.declared.order.Order.TheVariants.{Central, Local}
 use Rattle.orders.specs.declared.token.Token.{Token}
 use Rattle.orders.specs.declared.token.Token.TheVariants.{Word, Comma, Equals, Slash}
-use Rattle.orders.specs.declared.token.ByteKind.{ByteKind}
-use Rattle.orders.specs.declared.token.ByteKind.TheVariants.{OfWord, Between, Known}
 use Rattle.orders.specs.declared.tokens.Tokens.{Tokens}
-use Rattle.orders.specs.Tokens.{Part, part, in_word, in_token, known, tokens_from, tokens_of}
+use Rattle.orders.specs.Tokens.{Part, part, tokens_from, tokens_of}
 use Rattle.orders.specs.Lines.{Slot, Meaning, Form, form, Verdict, lines, slots_of, takes, found, form_order, all_digits, number}
-
--- the bytes of a kind
-abbrev pub of_kind : ByteKind → ℕ → Bool
-of_kind OfWord b = in_word b
-of_kind Between b = not (in_token b)
-of_kind Known b = known b
 
 -- the bytes of a token
 abbrev pub text_of : Token → List ℕ

@@ -1,11 +1,12 @@
 // The reading of a command line, in steps: its length, its bytes, its tokens.
-ghost use Rattle.std.specs.Prelude.{◌≡◌, ◌&&◌, nat_le};
+ghost use Rattle.std.specs.Prelude.{◌≡◌, ◌&&◌, nat_le, not, position};
+ghost use Rattle.orders.specs.Tokens.{known};
 ghost use Rattle.orders.specs.Orders.{length_check, byte_check, order_of};
 
 use crate::fault::{OrderFault, ReaderFault};
 use crate::form::read_line;
 use crate::order::Order;
-use crate::token::{ByteKind, run_end};
+use crate::token::is_known;
 
 // May a line have so many bytes?
 fn is_length(bytes: usize) -> bool
@@ -25,15 +26,20 @@ fn check_length(line: &[u8]) -> Result<(), ReaderFault>
     }
 }
 
+// The place of the first byte that no line may have, if there is one.
+fn first_unknown(line: &[u8]) -> Option<usize>
+    ensures { result ≡ position (λ byte. not (known byte)) line.now }
+{
+    line.iter().position(|byte| !is_known(*byte))
+}
+
 // Has the line only bytes that a line may have?
 fn check_bytes(line: &[u8]) -> Result<(), ReaderFault>
     ensures { result ≡ byte_check line.now }
 {
-    let place = run_end(line, 0, ByteKind::Known);
-    if place < line.len() {
-        Err(ReaderFault::Byte(place))
-    } else {
-        Ok(())
+    match first_unknown(line) {
+        Some(place) => Err(ReaderFault::Byte(place)),
+        None => Ok(()),
     }
 }
 

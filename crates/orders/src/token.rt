@@ -1,9 +1,9 @@
 // The tokens of a line: words and marks, each a part of the line with its place.
-ghost use Rattle.std.specs.Prelude.{◌≡◌, ◌+◌, ◌<◌, ◌≤◌, true, length, drop, slice_index};
+ghost use Rattle.std.specs.Prelude.{◌≡◌, ◌+◌, ◌<◌, ◌≤◌, true, length, drop, position, slice_index};
 ghost use Rattle.std.specs.List.{prefix_len};
 ghost use Rattle.orders.specs.declared.fault.OrderFault.TheVariants.{Token as NoSuchToken};
-ghost use Rattle.orders.specs.Tokens.{in_word, is_mark, in_token};
-ghost use Rattle.orders.specs.Reading.{of_kind, text_of, place_of, FirstAt};
+ghost use Rattle.orders.specs.Tokens.{in_word, is_mark, in_token, known};
+ghost use Rattle.orders.specs.Reading.{text_of, place_of, FirstAt};
 
 use crate::fault::OrderFault;
 
@@ -70,39 +70,25 @@ fn in_token(byte: u8) -> bool
     is_mark(byte) || is_word(byte)
 }
 
-// Bytes that run on together.
-#[derive(Clone, Copy)]
-pub(crate) enum ByteKind {
-    // the bytes of words
-    OfWord,
-    // the bytes of no token
-    Between,
-    // the bytes that a line may have: those of tokens, and spaces
-    Known,
-}
-
-impl ByteKind {
-    // Is the byte of this kind?
-    fn has(self, byte: u8) -> bool
-        ensures { result ≡ of_kind self byte }
-    {
-        match self {
-            ByteKind::OfWord => is_word(byte),
-            ByteKind::Between => !in_token(byte),
-            ByteKind::Known => in_token(byte) || byte == b' ',
-        }
-    }
-}
-
-// Where the bytes of a kind end that run on from this place.
-pub(crate) fn run_end(line: &[u8], from: usize, kind: ByteKind) -> usize
-    ensures { result ≡ from + prefix_len (of_kind kind) (drop from line.now) }
+// Is it a byte that a line may have: one of a token, or a space?
+pub(crate) fn is_known(byte: u8) -> bool
+    ensures { result ≡ known byte }
 {
-    let mut place = from;
-    while place < line.len() && kind.has(line[place]) {
-        place += 1;
-    }
-    place
+    in_token(byte) || byte == b' '
+}
+
+// How many bytes stand before the next token, from this place on, if there is one.
+pub(crate) fn bytes_before(line: &[u8], from: usize) -> Option<usize>
+    ensures { result ≡ position in_token (drop from line.now) }
+{
+    line.iter().skip(from).position(|byte| in_token(*byte))
+}
+
+// How many bytes of a word the text begins with.
+fn word_length(text: &[u8]) -> usize
+    ensures { result ≡ prefix_len in_word text.now }
+{
+    text.iter().take_while(|byte| is_word(**byte)).count()
 }
 
 // The token that begins at this place.
@@ -117,9 +103,9 @@ pub(crate) fn token_at<'a>(line: &'a [u8], place: usize) -> Token<'a>
         b'=' => Token::Equals { place },
         b'/' => Token::Slash { place },
         _ => {
-            let end = run_end(line, place, ByteKind::OfWord);
+            let rest = &line[place..];
             Token::Word {
-                text: &line[place..end],
+                text: &rest[..word_length(rest)],
                 place,
             }
         }

@@ -5,7 +5,7 @@ ghost use Rattle.orders.specs.Reading.{left, whole_length, finished, Stepped, Re
 
 use crate::fault::OrderFault;
 use crate::order::Order;
-use crate::token::{ByteKind, Token, run_end, token_at};
+use crate::token::{Token, bytes_before, token_at};
 
 // What is left to read of a line.
 #[derive(Drop)]
@@ -28,10 +28,7 @@ impl<'a> Tokens<'a> {
         ensures { Stepped result self.old self.new }
     {
         let line = self.line;
-        let place = run_end(line, self.place, ByteKind::Between);
-        if place >= line.len() {
-            return None;
-        }
+        let place = self.place + bytes_before(line, self.place)?;
         let token = token_at(line, place);
         self.place = place + token.text().len();
         Some(token)
@@ -41,10 +38,7 @@ impl<'a> Tokens<'a> {
     pub(crate) fn required(&mut self) -> Result<Token<'a>, OrderFault>
         ensures { Required result self.old self.new }
     {
-        match self.next_token() {
-            Some(token) => Ok(token),
-            None => Err(OrderFault::Token(self.line.len())),
-        }
+        self.next_token().ok_or(OrderFault::Token(self.line.len()))
     }
 
     // Reads one token, which has to have this text.

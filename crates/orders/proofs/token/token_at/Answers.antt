@@ -1,18 +1,9 @@
-use Rattle.std.proofs.Common.{◌≡◌, ℕ, ◌+◌, ◌-◌, ◌<◌, ◌≤◌, true, List, [], ◌∷◌, length, get_or, take, drop, refl, ap, ◌∙◌, arith}
+use Rattle.std.proofs.Common.{◌≡◌, ℕ, ◌+◌, ◌-◌, ◌<◌, true, List, [], ◌∷◌, length, get_or, take, drop, refl, ap, ◌∙◌, arith}
+use Rattle.std.proofs.lemmas.List.{take_rest}
 use Rattle.std.specs.List.{prefix_len}
-use Rattle.std.proofs.lemmas.List.{length-drop, length-take}
-use Rattle.std.proofs.lemmas.List.Sums.{prefix_len-le-length}
 use Rattle.orders.specs.Tokens.{part, in_word, is_mark, tokens_from}
 use Rattle.orders.proofs.Cutting.{mark_at, word_at, word_left}
 use Rattle.orders.proofs.token.token_at.Goals as goal
-use Rattle.orders.proofs.token.token_at.Goals.{After-run_end-end}
-
--- the word ends within the line
-ends : (c : After-run_end-end) → c.run_end-end.result ≤ length c.args.line.now
-ends c = omega (arith, c.run_end-end.ensures, prefix_len-le-length in_word (drop c.args.place c.args.line.now), length-drop c.args.place c.args.line.now, c.requires.within)
-
-pub slice_bounds-result-end : goal.slice_bounds-result-end
-slice_bounds-result-end c = omega (arith, ends c)
 
 -- this mark stands here
 mark : (line : List ℕ) (n k : ℕ) → n < length line → get_or line n 0 ≡ k → is_mark k ≡ true → tokens_from n (drop n line) ≡ part (k ∷ []) n ∷ tokens_from (n + 1) (drop (n + 1) line)
@@ -27,15 +18,10 @@ returns-in-61 c = record { first = mark _ _ 61 c.requires.within c.in-61.is refl
 pub returns-in-47 : goal.returns-in-47
 returns-in-47 c = record { first = mark _ _ 47 c.requires.within c.in-47.is refl; within = omega arith }
 
-pub returns-in_default : goal.returns-in_default
-returns-in_default c =
+pub returns-in_default-clause-first : goal.returns-in_default-clause-first
+returns-in_default-clause-first c =
     let line : List ℕ = c.args.line.now in
     let place : ℕ = c.args.place in
+    let rest : List ℕ = take (length line - place) (drop place line) in
     let w = word_left (get_or line place 0) c.requires.begins (λ e. omega (arith, e)) (λ e. omega (arith, e)) (λ e. omega (arith, e)) in
-    let at = (goal.at.returns-in_default c).After-run_end-end in
-    let n : c.run_end-end.result - place ≡ prefix_len in_word (drop place line) = omega (arith, c.run_end-end.ensures) in
-    let fits = ends at in
-    record {
-      first = word_at line place c.requires.within w _ (ap (λ k. take k (drop place line)) n);
-      within = simp (length-take, length-drop) (omega arith);
-    }
+    word_at line place c.requires.within w _ (ap (λ k. take k rest) c.word_length.ensures ∙ ap (λ l. take (prefix_len in_word l) l) (take_rest line place))
