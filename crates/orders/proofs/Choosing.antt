@@ -3,22 +3,30 @@ use Rattle.std.proofs.Common.{◌≡◌, ℕ, min, Bool, true, false, cond, ◌&
 use Rattle.std.specs.Str.{bytes_eq}
 use Rattle.std.proofs.lemmas.Slice.Eq.{bytes_eq-Decides}
 use Rattle.std.proofs.lemmas.Bool.{cases_Bool, cases_lt, cond-false, and_right, lt-leb}
+use Rattle.orders.specs.declared.fault.OrderFault.{OrderFault}
 use Rattle.orders.specs.declared.fault.OrderFault.TheVariants.{Token as NoSuchToken}
-use Rattle.orders.specs.declared.form.Command.{Command}
-use Rattle.orders.specs.declared.form.Command.TheVariants.{Set, Off, Status, Cycles}
-use Rattle.orders.specs.declared.form.Setting.{Setting}
-use Rattle.orders.specs.declared.form.Setting.TheVariants.{Mode, Cycle}
 use Rattle.orders.specs.declared.order.Order.{Order}
 use Rattle.orders.specs.declared.token.Token.{Token}
 use Rattle.orders.specs.declared.tokens.Tokens.{Tokens}
 use Rattle.orders.specs.Tokens.{Part, tokens_from}
 use Rattle.orders.specs.Lines.{Meaning, orders, sets_cycle, value, Form, form, Verdict, lines, all_digits, number, cycle_order, order_by, form_order}
-use Rattle.orders.specs.Reading.{text_of, place_of, part_of, left, whole_length, finished, command_of, command_rest, setting_of, setting_rest, mode_order, seconds, past, if_any, past_order, lines_past}
+use Rattle.orders.specs.Reading.{text_of, place_of, part_of, left, whole_length, finished, mode_order, seconds, past, if_any, past_order, lines_past}
 
 -- C is what the next token tells, and after each the rest of the lines is known
 module _ {C : Type 0} (fs : List Form) (tells-of : List ℕ → Option C) (rest : Option C → List Form) (goes_on : (w : List ℕ) → past w fs ≡ rest (tells-of w)) where
   pub chosen : (t : Token) (b : Tokens) (w : List ℕ) (o : Option C) (v : Verdict) → w ≡ text_of t → o ≡ tells-of w → v ≡ if_any (rest o) (form_order (part_of t) (rest o) (left b) (whole_length b)) (Err (NoSuchToken (place_of t))) → v ≡ past_order fs (part_of t) (left b) (whole_length b)
   chosen t b w o v e c h = h ∙ ap (λ l. if_any l (form_order (part_of t) l (left b) (whole_length b)) (Err (NoSuchToken (place_of t)))) (ap rest (c ∙ ap tells-of e) ∙ sym (goes_on (text_of t)))
+
+-- the token is told by its text: the lines that go on with it, or none
+module _ (fs : List Form) (t : Token) (b : Tokens) (w : List ℕ) (same : w ≡ text_of t) where
+  pub goes_on : (x : List ℕ) (f : Form) (gs : List Form) (v : Verdict) → bytes_eq x w ≡ true → past x fs ≡ f ∷ gs → v ≡ form_order (part_of t) (f ∷ gs) (left b) (whole_length b) → v ≡ past_order fs (part_of t) (left b) (whole_length b)
+  goes_on x f gs v e p h =
+      h ∙
+      ap (λ l. if_any l (form_order (part_of t) l (left b) (whole_length b)) (Err (NoSuchToken (place_of t))))
+      (sym p ∙ ap (λ y. past y fs) ((bytes_eq-Decides x w).0 e ∙ same))
+
+  pub goes_nowhere : (f : OrderFault) → past w fs ≡ [] → f ≡ NoSuchToken (place_of t) → Err f ≡ past_order fs (part_of t) (left b) (whole_length b)
+  goes_nowhere f p h = ap Err h ∙ ap (λ l. if_any l (form_order (part_of t) l (left b) (whole_length b)) (Err (NoSuchToken (place_of t)))) (sym p ∙ ap (λ y. past y fs) same)
 
 -- none of the texts is w
 abbrev NoneOf : List (List ℕ) → List ℕ → Type 0
@@ -41,34 +49,6 @@ by_texts P (x ∷ xs) each other w =
     later : (ys : List (List ℕ)) → Each P ys → Each (λ w. bytes_eq x w ≡ false → P w) ys
     later [] h = tt
     later (y ∷ ys) h = (λ f. h.0, later ys h.1)
-
-abbrev pub after_command : Option Command → List Form
-after_command (Some c) = command_rest c
-after_command None = []
-
-pub past_command : (w : List ℕ) → past w lines ≡ after_command (command_of w)
-unfolding lines lines_past tokens_from
-past_command = by_texts _ (codes "PA" ∷ codes "PM" ∷ codes "P" ∷ codes "PE" ∷ []) (refl, (refl, (refl, (refl, tt)))) (λ w n. rw (n.0, n.1.0, n.1.1.0, n.1.1.1.0))
-
-pub some_command : (c : Command) (x y : Verdict) → if_any (command_rest c) x y ≡ x
-unfolding lines lines_past tokens_from
-some_command Set x y = refl
-some_command Off x y = refl
-some_command Status x y = refl
-some_command Cycles x y = refl
-
-abbrev pub after_setting : Option Setting → List Form
-after_setting (Some s) = setting_rest s
-after_setting None = []
-
-pub past_setting : (w : List ℕ) → past w (lines_past "PA, AM=") ≡ after_setting (setting_of w)
-unfolding lines lines_past tokens_from
-past_setting = by_texts _ (codes "PIL" ∷ codes "F.1" ∷ []) (refl, (refl, tt)) (λ w n. rw (n.0, n.1.0))
-
-pub some_setting : (s : Setting) (x y : Verdict) → if_any (setting_rest s) x y ≡ x
-unfolding lines lines_past tokens_from
-some_setting Mode x y = refl
-some_setting Cycle x y = refl
 
 -- one line that ends here
 abbrev pub ending : Meaning → List Form

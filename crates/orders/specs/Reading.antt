@@ -4,10 +4,6 @@ use Prim.Native.String.{String}
 use Rattle.std.specs.Str.{bytes_eq}
 use Rattle.orders.specs.declared.fault.OrderFault.{OrderFault}
 use Rattle.orders.specs.declared.fault.OrderFault.TheVariants.{Token as NoSuchToken}
-use Rattle.orders.specs.declared.form.Command.{Command}
-use Rattle.orders.specs.declared.form.Command.TheVariants.{Set, Off, Status, Cycles}
-use Rattle.orders.specs.declared.form.Setting.{Setting}
-use Rattle.orders.specs.declared.form.Setting.TheVariants.{Mode, Cycle}
 use Rattle.orders.specs.declared.order.Order.{Order}
 use Rattle.orders.specs.declared.order.Order.TheVariants.{Central, Local}
 use Rattle.orders.specs.declared.token.Token.{Token}
@@ -50,18 +46,6 @@ FirstAt n line t = tokens_from n (drop n line) ≡ part_of t ∷ tokens_from (n 
 abbrev pub Stepped : Option Token → Tokens → Tokens → Type 0
 Stepped None a b = (left a ≡ []) × (whole_length b ≡ whole_length a)
 Stepped (Some t) a b = (left a ≡ part_of t ∷ left b) × (whole_length b ≡ whole_length a)
-
--- the commands that begin a line
-abbrev pub command_of : List ℕ → Option Command
-command_of text =
-    cond (bytes_eq (codes "PA") text) (Some Set)
-    (cond (bytes_eq (codes "PM") text) (Some Off)
-    (cond (bytes_eq (codes "P") text) (Some Status)
-    (cond (bytes_eq (codes "PE") text) (Some Cycles) None)))
-
--- the mode, or the cycle
-abbrev pub setting_of : List ℕ → Option Setting
-setting_of text = cond (bytes_eq (codes "PIL") text) (Some Mode) (cond (bytes_eq (codes "F.1") text) (Some Cycle) None)
 
 -- the mode digit: 0 is central, 1 is local, and there is no other
 abbrev pub mode_order : List ℕ → Option Order
@@ -141,14 +125,3 @@ past_all (p ∷ ps) fs = past_all ps (past p.text fs)
 
 unfoldable pub lines_past : String → List Form
 lines_past s = past_all (tokens_of (codes s)) lines
-
--- the rest of the lines that begin with a command, and past it with a setting
-abbrev pub command_rest : Command → List Form
-command_rest Set = lines_past "PA"
-command_rest Off = lines_past "PM"
-command_rest Status = lines_past "P"
-command_rest Cycles = lines_past "PE"
-
-abbrev pub setting_rest : Setting → List Form
-setting_rest Mode = lines_past "PA, AM=PIL"
-setting_rest Cycle = lines_past "PA, AM=F.1"

@@ -2,49 +2,11 @@
 ghost use Rattle.std.specs.Prelude.{◌≡◌};
 ghost use Rattle.orders.specs.Lines.{lines};
 ghost use Rattle.orders.specs.Orders.{line_order};
-ghost use Rattle.orders.specs.Reading.{command_of, command_rest, setting_of, setting_rest, lines_past, Reads};
+ghost use Rattle.orders.specs.Reading.{lines_past, Reads};
 
 use crate::fault::OrderFault;
 use crate::order::{Order, cycle_order, decimal, mode_order};
 use crate::tokens::Tokens;
-
-// What a line begins with.
-enum Command {
-    Set,
-    Off,
-    Status,
-    Cycles,
-}
-
-// What a line sets.
-enum Setting {
-    Mode,
-    Cycle,
-}
-
-// The command of a first token, if it is one.
-fn command_of(text: &[u8]) -> Option<Command>
-    ensures { result ≡ command_of text.now }
-{
-    match text {
-        b"PA" => Some(Command::Set),
-        b"PM" => Some(Command::Off),
-        b"P" => Some(Command::Status),
-        b"PE" => Some(Command::Cycles),
-        _ => None,
-    }
-}
-
-// The setting that a token tells, if it does.
-fn setting_of(text: &[u8]) -> Option<Setting>
-    ensures { result ≡ setting_of text.now }
-{
-    match text {
-        b"PIL" => Some(Setting::Mode),
-        b"F.1" => Some(Setting::Cycle),
-        _ => None,
-    }
-}
 
 // Reads the tokens of a whole line.
 pub(crate) fn read_line(line: &[u8]) -> Result<Order, OrderFault>
@@ -58,21 +20,12 @@ fn read_form(tokens: &mut Tokens) -> Result<Order, OrderFault>
     ensures { Reads result lines tokens.old }
 {
     let first = tokens.required()?;
-    match command_of(first.text()) {
-        Some(command) => read_command(command, tokens),
-        None => Err(first.stray()),
-    }
-}
-
-// Reads what follows a command.
-fn read_command(command: Command, tokens: &mut Tokens) -> Result<Order, OrderFault>
-    ensures { Reads result (command_rest command) tokens.old }
-{
-    match command {
-        Command::Set => read_set(tokens),
-        Command::Off => read_off(tokens),
-        Command::Status => tokens.finish(Ok(Order::Status)),
-        Command::Cycles => tokens.finish(Ok(Order::Cycles)),
+    match first.text() {
+        b"PA" => read_set(tokens),
+        b"PM" => read_off(tokens),
+        b"P" => tokens.finish(Ok(Order::Status)),
+        b"PE" => tokens.finish(Ok(Order::Cycles)),
+        _ => Err(first.stray()),
     }
 }
 
@@ -89,19 +42,10 @@ fn read_set(tokens: &mut Tokens) -> Result<Order, OrderFault>
     ensures { Reads result (lines_past "PA") tokens.old }
 {
     let next = tokens.token_behind(b", AM=")?;
-    match setting_of(next.text()) {
-        Some(setting) => read_setting(setting, tokens),
-        None => Err(next.stray()),
-    }
-}
-
-// Reads what follows the token of a setting.
-fn read_setting(setting: Setting, tokens: &mut Tokens) -> Result<Order, OrderFault>
-    ensures { Reads result (setting_rest setting) tokens.old }
-{
-    match setting {
-        Setting::Mode => read_mode(tokens),
-        Setting::Cycle => read_cycle(tokens),
+    match next.text() {
+        b"PIL" => read_mode(tokens),
+        b"F.1" => read_cycle(tokens),
+        _ => Err(next.stray()),
     }
 }
 

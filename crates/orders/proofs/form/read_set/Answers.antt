@@ -1,10 +1,11 @@
-use Rattle.std.proofs.Common.{List, [], ◌∷◌, ◌++◌, Some, None, Err, sym, refl, ap, ◌∙◌, subst}
+use Rattle.std.proofs.Common.{◌≡◌, false, List, [], ◌∷◌, ◌++◌, codes, sym, refl, subst, rules}
+use Rattle.std.specs.Str.{bytes_eq}
 use Rattle.orders.specs.declared.order.Order.TheVariants.{Central, Local}
 use Rattle.orders.specs.Tokens.{tokens_from}
 use Rattle.orders.specs.Lines.{orders, sets_cycle, value, written, Form, form, lines}
-use Rattle.orders.specs.Reading.{part_of, setting_of, lines_past, Reads}
+use Rattle.orders.specs.Reading.{part_of, lines_past, Reads}
 use Rattle.orders.proofs.Narrowing.{broke}
-use Rattle.orders.proofs.Choosing.{chosen, after_setting, past_setting, some_setting}
+use Rattle.orders.proofs.Choosing.{goes_on, goes_nowhere}
 use Rattle.orders.proofs.form.read_set.Goals as goal
 
 -- what may follow the phrase
@@ -18,16 +19,25 @@ pub returns-in_err-next : goal.returns-in_err-next
 unfolding lines lines_past tokens_from
 returns-in_err-next c = subst (λ v. Reads v (lines_past "PA") c.args.tokens.now) (sym (broke _ _ c.from_residual.ensures.1)) (c.in_err-next.ensures first others refl)
 
-pub returns-in-Some : goal.returns-in-Some
+pub returns-in-PIL : goal.returns-in-PIL
 unfolding lines lines_past tokens_from
-returns-in-Some c =
+returns-in-PIL c =
     let t = c.in_ok-next.next in
     c.in_ok-next.ensures first others _
-    (chosen (first ∷ others) setting_of after_setting past_setting t c.token_behind.new.self _ (Some c.in-Some.setting) _ c.text.ensures c.in-Some.ensures
-    (c.read_setting.ensures (part_of t) ∙ sym (some_setting c.in-Some.setting _ _)))
+    (goes_on (first ∷ others) t c.token_behind.new.self _ c.text.ensures (codes "PIL") _ _ _ (search rules) refl (c.read_mode.ensures (part_of t)))
 
-pub returns-in-None : goal.returns-in-None
+pub returns-in-70 : goal.returns-in-70
 unfolding lines lines_past tokens_from
-returns-in-None c =
+returns-in-70 c =
+    let t = c.in_ok-next.next in
     c.in_ok-next.ensures first others _
-    (chosen (first ∷ others) setting_of after_setting past_setting c.in_ok-next.next c.token_behind.new.self _ None _ c.text.ensures c.in-None.ensures (ap Err c.stray.ensures))
+    (goes_on (first ∷ others) t c.token_behind.new.self _ c.text.ensures (codes "F.1") _ _ _ (search rules) refl (c.read_cycle.ensures (part_of t)))
+
+pub returns-in_default : goal.returns-in_default
+unfolding lines lines_past tokens_from
+returns-in_default c =
+    let w = c.text.result.now in
+    let no_mode : bytes_eq (codes "PIL") w ≡ false = search rules in
+    let no_cycle : bytes_eq (codes "F.1") w ≡ false = search rules in
+    c.in_ok-next.ensures first others _
+    (goes_nowhere (first ∷ others) c.in_ok-next.next c.token_behind.new.self w c.text.ensures _ (rw (no_mode, no_cycle)) c.stray.ensures)
