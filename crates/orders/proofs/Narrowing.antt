@@ -1,5 +1,5 @@
 -- Tokens read one by one, each narrowing the lines to those that go on with it, give what the table says of them all.
-use Rattle.std.proofs.Common.{◌≡◌, ℕ, suc, max, Bool, true, false, cond, ◌&&◌, List, [], ◌∷◌, ◌++◌, IsErrAnd, Some, None, Err, Result, sym, refl, ap, ◌∙◌, ⊎_elim, arith}
+use Rattle.std.proofs.Common.{◌≡◌, ℕ, suc, max, Bool, true, false, cond, ◌&&◌, List, [], ◌∷◌, ◌++◌, IsErrAnd, Some, None, Err, Result, sym, refl, ap, subst, ◌∙◌, ⊎_elim, arith}
 use Rattle.std.specs.Str.{bytes_eq}
 use Rattle.std.proofs.lemmas.Result.{err_from_is_err_and}
 use Rattle.std.proofs.lemmas.Slice.Eq.{bytes_eq-Decides}
@@ -109,6 +109,6 @@ pub behind_nothing : (fs : List Form) → behind [] fs ≡ fs
 behind_nothing [] = refl
 behind_nothing (f ∷ fs) = ap (λ l. f ∷ l) (behind_nothing fs)
 
--- the exit of a `?` hands the fault on
-pub broke : {X : Type 0} (r : Result X OrderFault) (f : OrderFault) → IsErrAnd r (λ e. e ≡ f) → r ≡ Err f
-broke r f h = let p = err_from_is_err_and r h in p.1 ∙ ap Err p.2
+-- what holds of a fault holds of the result that the exit of a `?` hands on
+pub handed_on : {X : Type 0} (P : Result X OrderFault → Type 0) (r : Result X OrderFault) (f : OrderFault) → IsErrAnd r (λ e. e ≡ f) → P (Err f) → P r
+handed_on P r f h p = let q = err_from_is_err_and r h in subst P (sym (q.1 ∙ ap Err q.2)) p

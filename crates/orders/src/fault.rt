@@ -4,7 +4,7 @@ ghost use Rattle.orders.specs.declared.fault.OrderFault.TheVariants.{Reader};
 ghost use Rattle.orders.specs.Faults.{refusal_of};
 
 // A line that the reader cannot cut into tokens.
-#[derive(Clone, Copy)]
+#[derive(Clone, Copy, Debug, PartialEq, Eq)]
 pub enum ReaderFault {
     // the line is empty or has more than 80 bytes: its length
     Length(usize),
@@ -13,7 +13,7 @@ pub enum ReaderFault {
 }
 
 // A line that gives no order.
-#[derive(Clone, Copy)]
+#[derive(Clone, Copy, Debug, PartialEq, Eq)]
 pub enum OrderFault {
     // the reader's fault
     Reader(ReaderFault),
@@ -32,7 +32,7 @@ impl From<ReaderFault> for OrderFault {
 }
 
 // A refusal as it is told: its number, and the length or place that goes with it, if any does.
-#[derive(Clone, Copy, Debug, PartialEq)]
+#[derive(Clone, Copy, Debug, PartialEq, Eq)]
 pub struct Refusal {
     pub number: u32,
     pub value: Option<usize>,

@@ -2,8 +2,6 @@
 ghost use Rattle.orders.specs.Laws.{Laws};
 
 // The laws of command lines hold.
-pub fn laws_hold() -> u8
+pub fn laws_hold()
     ensures { Laws }
-{
-    0
-}
+{}

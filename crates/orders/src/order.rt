@@ -7,7 +7,7 @@ ghost use Rattle.orders.specs.Reading.{mode_order, seconds};
 use crate::fault::OrderFault;
 
 // What a command line asks for.
-#[derive(Clone, Copy, Debug, PartialEq)]
+#[derive(Clone, Copy, Debug, PartialEq, Eq)]
 pub enum Order {
     // central mode
     Central,
@@ -41,7 +41,7 @@ pub(crate) fn mode_order(text: &[u8]) -> Option<Order>
 fn is_cycle(seconds: u32) -> bool
     ensures { result ≡ (nat_le 4 seconds && nat_le seconds 120) }
 {
-    seconds >= 4 && seconds <= 120
+    (4..=120).contains(&seconds)
 }
 
 // The order of a cycle of so many seconds, whose digits stand at this place.

@@ -12,7 +12,7 @@ use crate::token::is_known;
 fn is_length(bytes: usize) -> bool
     ensures { result ≡ (nat_le 1 bytes && nat_le bytes 80) }
 {
-    bytes >= 1 && bytes <= 80
+    (1..=80).contains(&bytes)
 }
 
 // Has the line a length that a line may have?

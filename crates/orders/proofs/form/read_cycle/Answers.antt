@@ -1,8 +1,8 @@
-use Rattle.std.proofs.Common.{[], ◌∷◌, Some, None, Err, sym, refl, ap, ◌∙◌, subst}
+use Rattle.std.proofs.Common.{[], ◌∷◌, Some, None, Err, refl, ap, ◌∙◌}
 use Rattle.orders.specs.Tokens.{tokens_from}
 use Rattle.orders.specs.Lines.{value, sets_cycle, number, cycle_order, Form, form, lines}
 use Rattle.orders.specs.Reading.{left, part_of, place_of, seconds, finished, lines_past, Reads}
-use Rattle.orders.proofs.Narrowing.{broke}
+use Rattle.orders.proofs.Narrowing.{handed_on}
 use Rattle.orders.proofs.Choosing.{chosen, after_value, past_value, value_told, ends_here}
 use Rattle.orders.proofs.form.read_cycle.Goals as goal
 
@@ -12,7 +12,7 @@ cycle = form (value ∷ []) sets_cycle
 
 pub returns-in_err-digits : goal.returns-in_err-digits
 unfolding lines lines_past tokens_from
-returns-in_err-digits c = subst (λ v. Reads v (lines_past "PA, AM=F.1") c.args.tokens.now) (sym (broke _ _ c.from_residual.ensures.1)) (c.in_err-digits.ensures cycle [] refl)
+returns-in_err-digits c = handed_on (λ v. Reads v (lines_past "PA, AM=F.1") c.args.tokens.now) _ _ c.from_residual.ensures.1 (c.in_err-digits.ensures cycle [] refl)
 
 pub returns-in-Some : goal.returns-in-Some
 unfolding lines lines_past tokens_from

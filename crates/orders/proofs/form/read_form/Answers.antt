@@ -1,10 +1,10 @@
-use Rattle.std.proofs.Common.{◌≡◌, false, codes, sym, refl, ◌∙◌, subst, rules}
+use Rattle.std.proofs.Common.{◌≡◌, false, codes, refl, ◌∙◌, rules}
 use Rattle.std.specs.Str.{bytes_eq}
 use Rattle.orders.specs.declared.order.Order.TheVariants.{Status, Cycles}
 use Rattle.orders.specs.Tokens.{tokens_from}
 use Rattle.orders.specs.Lines.{orders, lines, Verdict}
 use Rattle.orders.specs.Reading.{left, whole_length, part_of, past_order, lines_past, Reads}
-use Rattle.orders.proofs.Narrowing.{broke, at_part, at_end}
+use Rattle.orders.proofs.Narrowing.{handed_on, at_part, at_end}
 use Rattle.orders.proofs.Choosing.{goes_on, goes_nowhere, ends_here}
 use Rattle.orders.proofs.form.read_form.Goals as goal
 use Rattle.orders.proofs.form.read_form.Goals.{After-text}
@@ -12,7 +12,7 @@ use Rattle.orders.proofs.form.read_form.Goals.{After-text}
 pub returns-in_err-first : goal.returns-in_err-first
 unfolding lines lines_past tokens_from
 returns-in_err-first c =
-    subst (λ v. Reads v lines c.args.tokens.now) (sym (broke _ _ c.from_residual.ensures.1)) (at_end lines c.args.tokens.now c.required.new.self _ refl c.in_err-first.ensures)
+    handed_on (λ v. Reads v lines c.args.tokens.now) _ _ c.from_residual.ensures.1 (at_end lines c.args.tokens.now c.required.new.self _ refl c.in_err-first.ensures)
 
 -- what the lines say past the first token
 past_first : (c : After-text) (v : Verdict) → v ≡ past_order lines (part_of c.in_ok-first.first) (left c.required.new.self) (whole_length c.required.new.self) → Reads v lines c.args.tokens.now

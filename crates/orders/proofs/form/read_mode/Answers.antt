@@ -1,9 +1,9 @@
-use Rattle.std.proofs.Common.{List, [], ◌∷◌, Some, None, Err, sym, refl, ap, ◌∙◌, subst}
+use Rattle.std.proofs.Common.{List, [], ◌∷◌, Some, None, Err, refl, ap, ◌∙◌}
 use Rattle.orders.specs.declared.order.Order.TheVariants.{Central, Local}
 use Rattle.orders.specs.Tokens.{tokens_from}
 use Rattle.orders.specs.Lines.{orders, written, Form, form, lines}
 use Rattle.orders.specs.Reading.{part_of, mode_order, lines_past, Reads}
-use Rattle.orders.proofs.Narrowing.{broke}
+use Rattle.orders.proofs.Narrowing.{handed_on}
 use Rattle.orders.proofs.Choosing.{chosen, after_mode, past_mode, ends_here}
 use Rattle.orders.proofs.form.read_mode.Goals as goal
 
@@ -16,7 +16,7 @@ local = form (written "1") (orders Local) ∷ []
 
 pub returns-in_err-digit : goal.returns-in_err-digit
 unfolding lines lines_past tokens_from
-returns-in_err-digit c = subst (λ v. Reads v (lines_past "PA, AM=PIL") c.args.tokens.now) (sym (broke _ _ c.from_residual.ensures.1)) (c.in_err-digit.ensures central local refl)
+returns-in_err-digit c = handed_on (λ v. Reads v (lines_past "PA, AM=PIL") c.args.tokens.now) _ _ c.from_residual.ensures.1 (c.in_err-digit.ensures central local refl)
 
 pub returns-in-Some : goal.returns-in-Some
 unfolding lines lines_past tokens_from

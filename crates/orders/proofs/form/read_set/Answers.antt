@@ -1,10 +1,10 @@
-use Rattle.std.proofs.Common.{◌≡◌, false, List, [], ◌∷◌, ◌++◌, codes, sym, refl, subst, rules}
+use Rattle.std.proofs.Common.{◌≡◌, false, List, [], ◌∷◌, ◌++◌, codes, refl, rules}
 use Rattle.std.specs.Str.{bytes_eq}
 use Rattle.orders.specs.declared.order.Order.TheVariants.{Central, Local}
 use Rattle.orders.specs.Tokens.{tokens_from}
 use Rattle.orders.specs.Lines.{orders, sets_cycle, value, written, Form, form, lines}
 use Rattle.orders.specs.Reading.{part_of, lines_past, Reads}
-use Rattle.orders.proofs.Narrowing.{broke}
+use Rattle.orders.proofs.Narrowing.{handed_on}
 use Rattle.orders.proofs.Choosing.{goes_on, goes_nowhere}
 use Rattle.orders.proofs.form.read_set.Goals as goal
 
@@ -17,7 +17,7 @@ others = form (written "PIL, AF=PF/1") (orders Local) ∷ form (written "F.1, CY
 
 pub returns-in_err-next : goal.returns-in_err-next
 unfolding lines lines_past tokens_from
-returns-in_err-next c = subst (λ v. Reads v (lines_past "PA") c.args.tokens.now) (sym (broke _ _ c.from_residual.ensures.1)) (c.in_err-next.ensures first others refl)
+returns-in_err-next c = handed_on (λ v. Reads v (lines_past "PA") c.args.tokens.now) _ _ c.from_residual.ensures.1 (c.in_err-next.ensures first others refl)
 
 pub returns-in-PIL : goal.returns-in-PIL
 unfolding lines lines_past tokens_from

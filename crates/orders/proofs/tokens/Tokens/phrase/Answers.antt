@@ -4,7 +4,7 @@ use Rattle.orders.specs.declared.tokens.Tokens.{Tokens}
 use Rattle.orders.specs.Tokens.{Part}
 use Rattle.orders.specs.Lines.{Slot, fixed, Form, Verdict}
 use Rattle.orders.specs.Reading.{text_of, part_of, left, behind, Reads, Phrased}
-use Rattle.orders.proofs.Narrowing.{as_expected, not_expected, behind_nothing, broke}
+use Rattle.orders.proofs.Narrowing.{as_expected, not_expected, behind_nothing, handed_on}
 use Rattle.orders.proofs.tokens.Tokens.phrase.Goals as goal
 
 abbrev slots : List Part → List Slot
@@ -23,7 +23,7 @@ loop-token-preserved c f fs v h =
 
 pub returns-in_err-expect : goal.returns-in_err-expect
 returns-in_err-expect c =
-    subst (λ x. Phrased x c.args.words.now c.args.self.now c.expect.new.self) (sym (broke _ _ c.from_residual.ensures.1))
+    handed_on (λ x. Phrased x c.args.words.now c.args.self.now c.expect.new.self) _ _ c.from_residual.ensures.1
     (λ f fs. c.loop-token.invariant f fs _
     (next c.loop-token.wanted c.next_token.new.self c.loop-token.self c.in-Some.token _ f fs _ c.in-Some.ensures.0 c.text.ensures
     (not_expected _ _ (f ∷ fs) c.loop-token.self _ c.in_err-expect.ensures)))

@@ -1,9 +1,9 @@
-use Rattle.std.proofs.Common.{ℕ, List, ◌∷◌, Ok, Err, Result, sym, subst}
+use Rattle.std.proofs.Common.{ℕ, List, ◌∷◌, Ok, Err, Result}
 use Rattle.orders.specs.declared.fault.OrderFault.{OrderFault}
 use Rattle.orders.specs.declared.token.Token.{Token}
 use Rattle.orders.specs.declared.tokens.Tokens.{Tokens}
 use Rattle.orders.specs.Reading.{part_of, Required, Phrased, BehindPhrase}
-use Rattle.orders.proofs.Narrowing.{at_part, at_end, broke}
+use Rattle.orders.proofs.Narrowing.{at_part, at_end, handed_on}
 use Rattle.orders.proofs.tokens.Tokens.token_behind.Goals as goal
 
 -- the phrase was read, and then the token behind it, if there was one
@@ -13,7 +13,7 @@ behind-phrase (Err e) w a m b h k = λ f fs none. h f fs (Err e) (at_end (f ∷ 
 
 pub returns-in_err-phrase : goal.returns-in_err-phrase
 returns-in_err-phrase c =
-    subst (λ r. BehindPhrase r c.args.words.now c.args.self.now c.phrase.new.self) (sym (broke _ _ c.from_residual.ensures.1)) (λ f fs none. c.in_err-phrase.ensures f fs)
+    handed_on (λ r. BehindPhrase r c.args.words.now c.args.self.now c.phrase.new.self) _ _ c.from_residual.ensures.1 (λ f fs none. c.in_err-phrase.ensures f fs)
 
 pub returns : goal.returns
 returns c = behind-phrase c.required.result c.args.words.now c.args.self.now c.phrase.new.self c.required.new.self c.in_ok-phrase.ensures c.required.ensures
