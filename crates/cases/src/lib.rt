@@ -14,6 +14,8 @@ mod heads;
 #[cfg(test)]
 mod lists;
 #[cfg(test)]
+mod numbers;
+#[cfg(test)]
 mod periods;
 #[cfg(test)]
 mod replies;

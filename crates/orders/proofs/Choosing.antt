@@ -3,6 +3,7 @@ use Rattle.std.proofs.Common.{◌≡◌, ℕ, min, Bool, true, false, cond, ◌&
 use Rattle.std.specs.Str.{bytes_eq}
 use Rattle.std.proofs.lemmas.Slice.Eq.{bytes_eq-Decides}
 use Rattle.std.proofs.lemmas.Bool.{cases_Bool, cases_lt, cond-false, and_right, lt-leb}
+use Rattle.decimals.specs.Digits.{saturated}
 use Rattle.orders.specs.declared.fault.OrderFault.{OrderFault}
 use Rattle.orders.specs.declared.fault.OrderFault.TheVariants.{Token as NoSuchToken}
 use Rattle.orders.specs.declared.order.Order.{Order}
@@ -10,7 +11,7 @@ use Rattle.orders.specs.declared.token.Token.{Token}
 use Rattle.orders.specs.declared.tokens.Tokens.{Tokens}
 use Rattle.orders.specs.Tokens.{Part, tokens_from}
 use Rattle.orders.specs.Lines.{Meaning, orders, sets_cycle, value, Form, form, Verdict, lines, all_digits, number, cycle_order, order_by, form_order}
-use Rattle.orders.specs.Reading.{text_of, place_of, part_of, left, whole_length, finished, mode_order, seconds, past, if_any, past_order, lines_past}
+use Rattle.orders.specs.Reading.{text_of, place_of, part_of, left, whole_length, finished, mode_order, past, if_any, past_order, lines_past}
 
 -- C is what the next token tells, and after each the rest of the lines is known
 module _ {C : Type 0} (fs : List Form) (tells-of : List ℕ → Option C) (rest : Option C → List Form) (goes_on : (w : List ℕ) → past w fs ≡ rest (tells-of w)) where
@@ -66,10 +67,10 @@ abbrev pub after_value : Option ℕ → List Form
 after_value (Some n) = ending sets_cycle
 after_value None = []
 
-pub past_value : (w : List ℕ) → past w (form (value ∷ []) sets_cycle ∷ []) ≡ after_value (seconds w)
+pub past_value : (w : List ℕ) → past w (form (value ∷ []) sets_cycle ∷ []) ≡ after_value (saturated w)
 past_value w = go (all_digits w)
   where
-    go : (b : Bool) → cond b (ending sets_cycle) [] ≡ after_value (cond b (Some (min (number w) 121)) None)
+    go : (b : Bool) → cond b (ending sets_cycle) [] ≡ after_value (cond b (Some (min (number w) 18446744073709551615)) None)
     go true = refl
     go false = refl
 
@@ -78,19 +79,19 @@ pub ends_here : (seen : Part) (m : Meaning) (ps : List Part) (n : ℕ) → finis
 ends_here seen m [] n = refl
 ends_here seen m (p ∷ ps) n = refl
 
--- whether a cycle is in range is told as far as 121
-capped : (n place : ℕ) → cycle_order (min n 121) place ≡ cycle_order n place
+-- whether a cycle is in range is told of the largest number of 64 bits as of any larger one
+capped : (n place : ℕ) → cycle_order (min n 18446744073709551615) place ≡ cycle_order n place
 capped n place =
     ⊎_elim
-    (λ h. let e : min n 121 ≡ n = omega arith in ap (λ k. cycle_order k place) e)
+    (λ h. let e : min n 18446744073709551615 ≡ n = omega arith in ap (λ k. cycle_order k place) e)
     (λ h.
-    let e : min n 121 ≡ 121 = omega arith in
-    ap (λ k. cycle_order k place) e ∙ sym (cond-false (leb 4 n && leb n 120) _ _ (and_right (leb 4 n) _ (lt-leb n 120 h))))
-    (cases_lt n 121)
+    let e : min n 18446744073709551615 ≡ 18446744073709551615 = omega arith in
+    ap (λ k. cycle_order k place) e ∙ sym (cond-false (leb 4 n && leb n 120) _ _ (and_right (leb 4 n) _ (lt-leb n 120 (omega arith)))))
+    (cases_lt n 18446744073709551615)
 
-pub value_told : (w : List ℕ) (n place : ℕ) → Some n ≡ seconds w → cycle_order n place ≡ cycle_order (number w) place
+pub value_told : (w : List ℕ) (n place : ℕ) → Some n ≡ saturated w → cycle_order n place ≡ cycle_order (number w) place
 value_told w n place h = go (all_digits w) h
   where
-    go : (b : Bool) → Some n ≡ cond b (Some (min (number w) 121)) None → cycle_order n place ≡ cycle_order (number w) place
-    go true e = let k : n ≡ min (number w) 121 = cc in ap (λ k. cycle_order k place) k ∙ capped (number w) place
+    go : (b : Bool) → Some n ≡ cond b (Some (min (number w) 18446744073709551615)) None → cycle_order n place ≡ cycle_order (number w) place
+    go true e = let k : n ≡ min (number w) 18446744073709551615 = cc in ap (λ k. cycle_order k place) k ∙ capped (number w) place
     go false e = let z : ◌≡◌ {A = ℕ} 0 1 = cc in absurd (omega arith)

@@ -1,12 +1,13 @@
 -- The six lines as a table, and what that table says of the tokens of a line.
-use Rattle.std.specs.Prelude.{ℕ, zero, suc, ◌+◌, ◌-◌, ◌*◌, max, Bool, true, false, cond, ◌&&◌, List, [], ◌∷◌, ◌++◌, map, Some, None, Ok, Err, codes, fold, Option, Result, nat_le}
+use Rattle.std.specs.Prelude.{ℕ, zero, suc, max, Bool, true, false, cond, ◌&&◌, List, [], ◌∷◌, ◌++◌, map, Some, None, Ok, Err, codes, Option, Result, nat_le}
 use Prim.Native.String.{String}
 use Rattle.std.specs.Str.{bytes_eq}
 use Rattle.orders.specs.declared.order.Order.{Order}
 use Rattle.orders.specs.declared.order.Order.TheVariants.{Central, Local, Cycle, Off, Status, Cycles}
 use Rattle.orders.specs.declared.fault.OrderFault.{OrderFault}
 use Rattle.orders.specs.declared.fault.OrderFault.TheVariants.{Token as NoSuchToken, Cycle as OutsideRange}
-use Rattle.orders.specs.Tokens.{Part, is_digit, tokens_of}
+use Rattle.orders.specs.Tokens.{Part, tokens_of}
+pub use Rattle.decimals.specs.Digits.{all_digits, number}
 
 -- what a line has at one of its tokens: a text, or the value of a cycle
 pub data Slot : Type 0 where
@@ -43,11 +44,6 @@ lines =
     form (written "P") (orders Status) ∷
     form (written "PE") (orders Cycles) ∷
     []
-
--- digits only
-abbrev pub all_digits : List ℕ → Bool
-all_digits [] = true
-all_digits (b ∷ bs) = is_digit b && all_digits bs
 
 -- may a token with this text stand here?
 abbrev pub takes : Slot → List ℕ → Bool
@@ -87,10 +83,6 @@ place_after (suc n) (p ∷ ps) length = place_after n ps length
 abbrev pub last_part : Part → List Part → Part
 last_part seen [] = seen
 last_part seen (p ∷ ps) = last_part p ps
-
--- the number that decimal digits write
-abbrev pub number : List ℕ → ℕ
-number ds = fold (λ n d. n * 10 + (d - 48)) 0 ds
 
 abbrev pub Verdict : Type 0
 Verdict = Result Order OrderFault

@@ -1,5 +1,5 @@
 -- What the reader's own values stand for, and what its steps answer.
-use Rattle.std.specs.Prelude.{◌≡◌, ℕ, ◌+◌, min, Bool, false, cond, List, [], ◌∷◌, ◌++◌, length, drop, Some, None, Ok, Err, codes, Option, Result}
+use Rattle.std.specs.Prelude.{◌≡◌, ℕ, ◌+◌, Bool, false, cond, List, [], ◌∷◌, ◌++◌, length, drop, Some, None, Ok, Err, codes, Option, Result}
 use Prim.Native.String.{String}
 use Rattle.std.specs.Str.{bytes_eq}
 use Rattle.orders.specs.declared.fault.OrderFault.{OrderFault}
@@ -10,7 +10,7 @@ use Rattle.orders.specs.declared.token.Token.{Token}
 use Rattle.orders.specs.declared.token.Token.TheVariants.{Word, Comma, Equals, Slash}
 use Rattle.orders.specs.declared.tokens.Tokens.{Tokens}
 use Rattle.orders.specs.Tokens.{Part, part, tokens_from, tokens_of}
-use Rattle.orders.specs.Lines.{Slot, Meaning, Form, form, Verdict, lines, slots_of, takes, found, form_order, all_digits, number}
+use Rattle.orders.specs.Lines.{Slot, Meaning, Form, form, Verdict, lines, slots_of, takes, found, form_order}
 
 -- the bytes of a token
 abbrev pub text_of : Token → List ℕ
@@ -50,10 +50,6 @@ Stepped (Some t) a b = (left a ≡ part_of t ∷ left b) × (whole_length b ≡ 
 -- the mode digit: 0 is central, 1 is local, and there is no other
 abbrev pub mode_order : List ℕ → Option Order
 mode_order text = cond (bytes_eq (codes "0") text) (Some Central) (cond (bytes_eq (codes "1") text) (Some Local) None)
-
--- the number that digits write, as far as 121: beyond the longest cycle it need not be told apart
-abbrev pub seconds : List ℕ → Option ℕ
-seconds text = cond (all_digits text) (Some (min (number text) 121)) None
 
 -- the answer where the line has to go on: the next token, or a fault at the end of the line
 abbrev pub Required : Result Token OrderFault → Tokens → Tokens → Type 0

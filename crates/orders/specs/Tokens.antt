@@ -1,9 +1,6 @@
 -- The tokens of a line, each with its text and its place.
 use Rattle.std.specs.Prelude.{ℕ, suc, Bool, true, false, ◌&&◌, ◌||◌, List, [], ◌∷◌, ◌==◌, nat_le}
-
--- 0 to 9
-abbrev pub is_digit : ℕ → Bool
-is_digit b = nat_le 48 b && nat_le b 57
+pub use Rattle.decimals.specs.Digits.{is_digit}
 
 -- a capital, a digit or a dot
 abbrev pub in_word : ℕ → Bool

@@ -5,8 +5,9 @@ ghost use Rattle.orders.specs.Orders.{line_order};
 ghost use Rattle.orders.specs.Reading.{lines_past, Reads};
 
 use crate::fault::OrderFault;
-use crate::order::{Order, cycle_order, decimal, mode_order};
+use crate::order::{Order, cycle_order, mode_order};
 use crate::tokens::Tokens;
+use decimals::digits::read_decimal;
 
 // Reads the tokens of a whole line.
 pub(crate) fn read_line(line: &[u8]) -> Result<Order, OrderFault>
@@ -65,7 +66,7 @@ fn read_cycle(tokens: &mut Tokens) -> Result<Order, OrderFault>
     ensures { Reads result (lines_past "PA, AM=F.1") tokens.old }
 {
     let digits = tokens.token_behind(b", CY=")?;
-    match decimal(digits.text()) {
+    match read_decimal(digits.text()) {
         Some(seconds) => tokens.finish(cycle_order(seconds, digits.place())),
         None => Err(digits.stray()),
     }

@@ -1,4 +1,3 @@
-pub mod Digits
 pub mod Cuts
 pub mod Reading
 pub mod Padding

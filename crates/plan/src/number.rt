@@ -1,16 +1,8 @@
 // Numbers as a plan writes them.
 ghost use Rattle.std.specs.Prelude.{◌≡◌};
-ghost use Rattle.plan.specs.Decimal.{is_digit, decimal};
+ghost use Rattle.plan.specs.Decimal.{decimal};
 
-// The largest number that a plan can write.
-const LARGEST: u64 = 4_294_967_295;
-
-// Is this byte a decimal digit?
-fn is_digit(byte: u8) -> bool
-    ensures { result ≡ is_digit byte }
-{
-    b'0' <= byte && byte <= b'9'
-}
+use decimals::digits::read_decimal;
 
 // The number that the text writes: one or more decimal digits, at most 4,294,967,295.
 pub fn read_number(text: &[u8]) -> Option<u32>
@@ -19,15 +11,5 @@ pub fn read_number(text: &[u8]) -> Option<u32>
     if text.is_empty() {
         return None;
     }
-    let mut value: u64 = 0;
-    for byte in text {
-        if !is_digit(*byte) {
-            return None;
-        }
-        value = value * 10 + (*byte - b'0') as u64;
-        if value > LARGEST {
-            return None;
-        }
-    }
-    Some(value as u32)
+    u32::try_from(read_decimal(text)?).ok()
 }

@@ -1,25 +1,43 @@
-use Rattle.std.proofs.Common.{sym, ◌∙◌, arith, rules}
-use Rattle.plan.proofs.Digits.{none_written, starts, no_digit, one_more, one_too_many, ends}
+use Rattle.std.proofs.Common.{◌≡◌, ◌<◌, ◌&&◌, ℕ, Bool, true, false, cond, min, length, List, [], ◌∷◌, Option, Some, None, Result, Ok, Err, leb, OkIff, sym, refl, ap, ◌∙◌, arith, rules}
+use Rattle.std.specs.Result.{result_ok}
+use Rattle.std.proofs.lemmas.Option.{none-some}
+use Rattle.std.proofs.lemmas.Bool.{cond-true, cond-false, le-leb, lt-leb}
+use Rattle.decimals.specs.Digits.{all_digits, number}
+use Rattle.plan.specs.Decimal.{decimal}
 use Rattle.plan.proofs.number.read_number.Goals as goal
 
+-- the number n, if t holds and it is not too large
+abbrev fitting : Bool → ℕ → Option ℕ
+fitting t n = cond (t && leb n 4294967295) (Some n) None
+
+none_written : (text : List ℕ) → length text ≡ 0 → None ≡ decimal text
+unfolding decimal
+none_written [] h = refl
+none_written (b ∷ bs) h = absurd (omega arith)
+
+written : (text : List ℕ) → 0 < length text → fitting (all_digits text) (number text) ≡ decimal text
+unfolding decimal
+written [] h = absurd (omega arith)
+written (b ∷ bs) h = refl
+
+none_read : (t : Bool) (n : ℕ) → None ≡ cond t (Some (min n 18446744073709551615)) None → None ≡ fitting t n
+none_read true n h = absurd (none-some _ h)
+none_read false n h = refl
+
+read : {E : Type 0} (t : Bool) (n v : ℕ) (r : Result ℕ E) → Some v ≡ cond t (Some (min n 18446744073709551615)) None → OkIff r (v < 4294967296) v → result_ok r ≡ fitting t n
+read false n v r h k = absurd (none-some v (sym h))
+read true n v (Ok x) h k = let e : v ≡ min n 18446744073709551615 = cc in let same : x ≡ n = omega arith in ap Some same ∙ sym (cond-true (leb n 4294967295) _ _ (le-leb n 4294967295 (omega arith)))
+read true n v (Err x) h k = let e : v ≡ min n 18446744073709551615 = cc in sym (cond-false (leb n 4294967295) _ _ (lt-leb n 4294967295 (omega arith)))
+
 pub returns-then-is_empty : goal.returns-then-is_empty
-returns-then-is_empty c = sym (none_written c.args.text.now (search rules))
+returns-then-is_empty c = none_written c.args.text.now (search rules)
 
-pub loop-byte-init : goal.loop-byte-init
-loop-byte-init c = (starts c.args.text.now (search rules), omega arith)
-
-pub returns-then-not-is_digit : goal.returns-then-not-is_digit
-returns-then-not-is_digit c =
-    sym (c.loop-byte.invariant.0 ∙ no_digit c.loop-byte.value c.loop-byte.byte-index c.args.text.now (omega arith) c.if-not-is_digit.ensures)
-
-pub returns-then-value-gt-LARGEST : goal.returns-then-value-gt-LARGEST
-returns-then-value-gt-LARGEST c =
-    sym (c.loop-byte.invariant.0 ∙ one_too_many c.loop-byte.value c.loop-byte.byte-index c.args.text.now (omega arith) c.if-not-is_digit.ensures c.if-value-gt-LARGEST.true)
-
-pub loop-byte-preserved : goal.loop-byte-preserved
-loop-byte-preserved c =
-    (c.loop-byte.invariant.0 ∙ one_more c.loop-byte.value c.loop-byte.byte-index c.args.text.now (omega arith) c.if-not-is_digit.ensures, omega arith)
+pub returns-in_err-read_decimal : goal.returns-in_err-read_decimal
+returns-in_err-read_decimal c =
+    let text = c.args.text.now in
+    c.from_residual.ensures ∙ none_read (all_digits text) (number text) c.in_err-read_decimal.ensures ∙ written text (search rules)
 
 pub returns : goal.returns
 returns c =
-    sym (c.loop-byte.invariant.0 ∙ ends c.loop-byte.value c.loop-byte.byte-index c.args.text.now (omega arith) (omega arith))
+    let text = c.args.text.now in
+    c.ok.ensures.value ∙ read (all_digits text) (number text) _ c.try_from.result c.in_ok-read_decimal.ensures c.try_from.ensures ∙ written text (search rules)

@@ -1,0 +1,2 @@
+-- Decimal digits, and the numbers that they write.
+pub mod Digits

@@ -1,0 +1,4 @@
+// Numbers as decimal digits write them.
+#![tactic(auto)]
+
+pub mod digits;
