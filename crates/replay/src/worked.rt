@@ -2,8 +2,6 @@
 ghost use Rattle.replay.specs.Worked.{WorkedFigures};
 
 // The worked figures hold together.
-pub fn worked_figures_hold() -> u8
+pub fn worked_figures_hold()
     ensures { WorkedFigures }
-{
-    6
-}
+{}
