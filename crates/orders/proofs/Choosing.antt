@@ -13,43 +13,20 @@ use Rattle.orders.specs.Tokens.{Part, tokens_from}
 use Rattle.orders.specs.Lines.{Meaning, orders, sets_cycle, value, Form, form, Verdict, lines, all_digits, number, cycle_order, order_by, form_order}
 use Rattle.orders.specs.Reading.{text_of, place_of, part_of, left, whole_length, finished, mode_order, past, if_any, past_order, lines_past}
 
--- C is what the next token tells, and after each the rest of the lines is known
-module _ {C : Type 0} (fs : List Form) (tells-of : List ℕ → Option C) (rest : Option C → List Form) (goes_on : (w : List ℕ) → past w fs ≡ rest (tells-of w)) where
-  pub chosen : (t : Token) (b : Tokens) (w : List ℕ) (o : Option C) (v : Verdict) → w ≡ text_of t → o ≡ tells-of w → v ≡ if_any (rest o) (form_order (part_of t) (rest o) (left b) (whole_length b)) (Err (NoSuchToken (place_of t))) → v ≡ past_order fs (part_of t) (left b) (whole_length b)
-  chosen t b w o v e c h = h ∙ ap (λ l. if_any l (form_order (part_of t) l (left b) (whole_length b)) (Err (NoSuchToken (place_of t)))) (ap rest (c ∙ ap tells-of e) ∙ sym (goes_on (text_of t)))
-
--- the token is told by its text: the lines that go on with it, or none
+-- the token t with the text w leaves some lines that go on with it, or none
 module _ (fs : List Form) (t : Token) (b : Tokens) (w : List ℕ) (same : w ≡ text_of t) where
-  pub goes_on : (x : List ℕ) (f : Form) (gs : List Form) (v : Verdict) → bytes_eq x w ≡ true → past x fs ≡ f ∷ gs → v ≡ form_order (part_of t) (f ∷ gs) (left b) (whole_length b) → v ≡ past_order fs (part_of t) (left b) (whole_length b)
-  goes_on x f gs v e p h =
-      h ∙
-      ap (λ l. if_any l (form_order (part_of t) l (left b) (whole_length b)) (Err (NoSuchToken (place_of t))))
-      (sym p ∙ ap (λ y. past y fs) ((bytes_eq-Decides x w).0 e ∙ same))
+  abbrev said : List Form → Verdict
+  said l = if_any l (form_order (part_of t) l (left b) (whole_length b)) (Err (NoSuchToken (place_of t)))
+
+  pub goes_on : (f : Form) (gs : List Form) (v : Verdict) → past w fs ≡ f ∷ gs → v ≡ form_order (part_of t) (f ∷ gs) (left b) (whole_length b) → v ≡ past_order fs (part_of t) (left b) (whole_length b)
+  goes_on f gs v p h = h ∙ ap said (sym p ∙ ap (λ y. past y fs) same)
 
   pub goes_nowhere : (f : OrderFault) → past w fs ≡ [] → f ≡ NoSuchToken (place_of t) → Err f ≡ past_order fs (part_of t) (left b) (whole_length b)
-  goes_nowhere f p h = ap Err h ∙ ap (λ l. if_any l (form_order (part_of t) l (left b) (whole_length b)) (Err (NoSuchToken (place_of t)))) (sym p ∙ ap (λ y. past y fs) same)
+  goes_nowhere f p h = ap Err h ∙ ap said (sym p ∙ ap (λ y. past y fs) same)
 
--- none of the texts is w
-abbrev NoneOf : List (List ℕ) → List ℕ → Type 0
-NoneOf [] w = Unit {0}
-NoneOf (x ∷ xs) w = (bytes_eq x w ≡ false) × NoneOf xs w
-
-abbrev Each : (List ℕ → Type 0) → List (List ℕ) → Type 0
-Each P [] = Unit {0}
-Each P (x ∷ xs) = P x × Each P xs
-
--- what holds of each of some texts, and of every other text, holds of all
-by_texts : (P : List ℕ → Type 0) (xs : List (List ℕ)) → Each P xs → ((w : List ℕ) → NoneOf xs w → P w) → (w : List ℕ) → P w
-by_texts P [] each other w = other w tt
-by_texts P (x ∷ xs) each other w =
-    ⊎_elim
-    (λ e. subst P ((bytes_eq-Decides x w).0 e) each.0)
-    (λ e. by_texts (λ w. bytes_eq x w ≡ false → P w) xs (later xs each.1) (λ v n f. other v (f, n)) w e)
-    (cases_Bool (bytes_eq x w))
-  where
-    later : (ys : List (List ℕ)) → Each P ys → Each (λ w. bytes_eq x w ≡ false → P w) ys
-    later [] h = tt
-    later (y ∷ ys) h = (λ f. h.0, later ys h.1)
+-- the lines that go on with a token of the text x
+pub past_text : (fs : List Form) (x w : List ℕ) → bytes_eq x w ≡ true → past w fs ≡ past x fs
+past_text fs x w e = ap (λ y. past y fs) (sym ((bytes_eq-Decides x w).0 e))
 
 -- one line that ends here
 abbrev pub ending : Meaning → List Form
@@ -61,7 +38,13 @@ after_mode None = []
 
 pub past_mode : (w : List ℕ) → past w (lines_past "PA, AM=PIL, AF=PF/") ≡ after_mode (mode_order w)
 unfolding lines lines_past tokens_from
-past_mode = by_texts _ (codes "0" ∷ codes "1" ∷ []) (refl, (refl, tt)) (λ w n. rw (n.0, n.1.0))
+past_mode w = ⊎_elim (λ e. subst P ((bytes_eq-Decides (codes "0") w).0 e) refl) (λ e. ⊎_elim (λ f. subst P ((bytes_eq-Decides (codes "1") w).0 f) refl) (other e) (cases_Bool (bytes_eq (codes "1") w))) (cases_Bool (bytes_eq (codes "0") w))
+  where
+    P : List ℕ → Type 0
+    P v = past v (lines_past "PA, AM=PIL, AF=PF/") ≡ after_mode (mode_order v)
+
+    other : bytes_eq (codes "0") w ≡ false → bytes_eq (codes "1") w ≡ false → P w
+    other e f = rw (e, f)
 
 abbrev pub after_value : Option ℕ → List Form
 after_value (Some n) = ending sets_cycle
@@ -94,4 +77,4 @@ value_told w n place h = go (all_digits w) h
   where
     go : (b : Bool) → Some n ≡ cond b (Some (min (number w) 18446744073709551615)) None → cycle_order n place ≡ cycle_order (number w) place
     go true e = let k : n ≡ min (number w) 18446744073709551615 = cc in ap (λ k. cycle_order k place) k ∙ capped (number w) place
-    go false e = let z : ◌≡◌ {A = ℕ} 0 1 = cc in absurd (omega arith)
+    go false e = cc

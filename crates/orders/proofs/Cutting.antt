@@ -70,8 +70,10 @@ run_law n (b ∷ bs) h = rw (word_law n b bs h, h, one-add) (ap (λ m. part (b �
 
 -- the same of the token at a place of the line
 module _ (line : List ℕ) (n : ℕ) (in-line : n < length line) where
-  pub mark_at : is_mark (get_or line n 0) ≡ true → tokens_from n (drop n line) ≡ part (get_or line n 0 ∷ []) n ∷ tokens_from (n + 1) (drop (n + 1) line)
-  mark_at h = ap (tokens_from n) (drop_more line n 0 in-line) ∙ mark_law n _ _ h ∙ ap (λ m. part (get_or line n 0 ∷ []) n ∷ tokens_from m (drop (n + 1) line)) (sym (add-one n))
+  pub mark_at : (k : ℕ) → get_or line n 0 ≡ k → is_mark k ≡ true → tokens_from n (drop n line) ≡ part (k ∷ []) n ∷ tokens_from (n + 1) (drop (n + 1) line)
+  mark_at k e m =
+      ap (tokens_from n) (drop_more line n 0 in-line ∙ ap (λ b. b ∷ drop (n + 1) line) e) ∙
+      mark_law n k _ m ∙ ap (λ j. part (k ∷ []) n ∷ tokens_from j (drop (n + 1) line)) (sym (add-one n))
 
   pub word_at : in_word (get_or line n 0) ≡ true → (t : List ℕ) → t ≡ take (prefix_len in_word (drop n line)) (drop n line) → tokens_from n (drop n line) ≡ part t n ∷ tokens_from (n + length t) (drop (n + length t) line)
   word_at h t e =

@@ -4,7 +4,7 @@ use Rattle.orders.specs.Tokens.{Part, in_word, is_mark, word_here, placed, token
 use Rattle.orders.specs.Laws.{texts_of, word_ends}
 use Rattle.orders.proofs.Cutting.{nil_law, skip_law}
 
-abbrev texts : List Part → List (List ℕ)
+abbrev pub texts : List Part → List (List ℕ)
 texts ps = map (λ (p : Part). p.text) ps
 
 -- a byte before the texts of what follows

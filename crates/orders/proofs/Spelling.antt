@@ -12,6 +12,7 @@ use Rattle.orders.specs.Tokens.{Part, part, known, tokens_from, tokens_of}
 use Rattle.orders.specs.Lines.{Slot, fixed, value, Meaning, orders, sets_cycle, Form, Verdict, lines, all_digits, number, takes, spelt, found, last_part, longest_shared, place_after, verdict, order_by, cycle_order}
 use Rattle.orders.specs.Orders.{Check, length_check, byte_check, after, line_order, order_of}
 use Rattle.orders.specs.Laws.{all_known, Good, texts_of, Spells}
+use Rattle.orders.proofs.Spaces.{texts}
 
 -- The table asks only for the texts of the tokens.
 abbrev spelt_by : List Slot → List (List ℕ) → Bool
@@ -27,9 +28,6 @@ found_by (f ∷ fs) ts = cond (spelt_by f.slots ts) (Some f.meaning) (found_by f
 abbrev last_text : List ℕ → List (List ℕ) → List ℕ
 last_text seen [] = seen
 last_text seen (t ∷ ts) = last_text t ts
-
-abbrev texts : List Part → List (List ℕ)
-texts ps = map (λ (p : Part). p.text) ps
 
 spelt_texts : (ss : List Slot) (ps : List Part) → spelt ss ps ≡ spelt_by ss (texts ps)
 spelt_texts [] [] = refl
@@ -73,7 +71,7 @@ module _ (ts : List (List ℕ)) (P : Meaning → Type 0) where
   OfEach (f ∷ fs) = (spelt_by f.slots ts ≡ true → P f.meaning) × OfEach fs
 
   found_each : (fs : List Form) → OfEach fs → (m : Meaning) → found_by fs ts ≡ Some m → P m
-  found_each [] h m e = let z : ◌≡◌ {A = ℕ} 0 1 = cc in absurd (omega arith)
+  found_each [] h m e = absurd cc
   found_each (f ∷ fs) h m e = go (spelt_by f.slots ts) refl (λ k. found_each fs h.1 m k) e
     where
       go : (b : Bool) → spelt_by f.slots ts ≡ b → (found_by fs ts ≡ Some m → P m) → cond b (Some f.meaning) (found_by fs ts) ≡ Some m → P m
@@ -81,7 +79,7 @@ module _ (ts : List (List ℕ)) (P : Meaning → Type 0) where
       go false s rest e = rest e
 
 no_order : (f : OrderFault) (o : Order) → ◌≡◌ {A = Verdict} (Err f) (Ok o) → ⊥
-no_order f o e = let z : ◌≡◌ {A = ℕ} 0 1 = cc in omega arith
+no_order f o e = cc
 
 in_range_lem : (n place : ℕ) (o : Order) → cycle_order n place ≡ Ok o → (Cycle n ≡ o) × (4 ≤ n) × (n ≤ 120)
 in_range_lem n place o h = go (leb 4 n && leb n 120) refl h
@@ -149,10 +147,10 @@ past_checks (Err f) b v o h = absurd (no_order _ o h)
 
 passed : (t : Bool) (f : ReaderFault) → ◌≡◌ {A = Check} (cond t (Ok tt) (Err f)) (Ok tt) → t ≡ true
 passed true f h = refl
-passed false f h = let z : ◌≡◌ {A = ℕ} 0 1 = cc in absurd (omega arith)
+passed false f h = cc
 
 not_failed : (t : Bool) (f : ReaderFault) → ◌≡◌ {A = Check} (cond t (Err f) (Ok tt)) (Ok tt) → t ≡ false
-not_failed true f h = let z : ◌≡◌ {A = ℕ} 0 1 = cc in absurd (omega arith)
+not_failed true f h = cc
 not_failed false f h = refl
 
 good : (line : List ℕ) → length_check line ≡ Ok tt → byte_check line ≡ Ok tt → Good line

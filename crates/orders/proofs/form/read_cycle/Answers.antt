@@ -1,10 +1,9 @@
-use Rattle.std.proofs.Common.{[], ◌∷◌, Some, None, Err, refl, ap, ◌∙◌}
-use Rattle.decimals.specs.Digits.{saturated}
+use Rattle.std.proofs.Common.{[], ◌∷◌, refl, ap, ◌∙◌, sym}
 use Rattle.orders.specs.Tokens.{tokens_from}
 use Rattle.orders.specs.Lines.{value, sets_cycle, number, cycle_order, Form, form, lines}
 use Rattle.orders.specs.Reading.{left, part_of, place_of, finished, lines_past, Reads}
 use Rattle.orders.proofs.Narrowing.{handed_on}
-use Rattle.orders.proofs.Choosing.{chosen, after_value, past_value, value_told, ends_here}
+use Rattle.orders.proofs.Choosing.{goes_on, goes_nowhere, after_value, past_value, value_told, ends_here}
 use Rattle.orders.proofs.form.read_cycle.Goals as goal
 
 -- what may follow the phrase
@@ -22,11 +21,11 @@ returns-in-Some c =
     let n = c.in-Some.seconds in
     let order = c.cycle_order.ensures ∙ ap (cycle_order n) c.place.ensures ∙ value_told c.text.result.now n (place_of t) c.in-Some.ensures ∙ ap (λ w. cycle_order (number w) (place_of t)) c.text.ensures in
     c.in_ok-digits.ensures cycle [] _
-    (chosen (cycle ∷ []) saturated after_value past_value t c.token_behind.new.self _ (Some n) _ c.text.ensures c.in-Some.ensures
+    (goes_on (cycle ∷ []) t c.token_behind.new.self _ c.text.ensures _ _ _ (past_value c.text.result.now ∙ ap after_value (sym c.in-Some.ensures))
     (c.finish.ensures ∙ ap (finished (left c.token_behind.new.self)) order ∙ ends_here (part_of t) sets_cycle _ _))
 
 pub returns-in-None : goal.returns-in-None
 unfolding lines lines_past tokens_from
 returns-in-None c =
     c.in_ok-digits.ensures cycle [] _
-    (chosen (cycle ∷ []) saturated after_value past_value c.in_ok-digits.digits c.token_behind.new.self _ None _ c.text.ensures c.in-None.ensures (ap Err c.stray.ensures))
+    (goes_nowhere (cycle ∷ []) c.in_ok-digits.digits c.token_behind.new.self _ c.text.ensures _ (past_value c.text.result.now ∙ ap after_value (sym c.in-None.ensures)) c.stray.ensures)

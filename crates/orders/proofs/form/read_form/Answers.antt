@@ -5,7 +5,7 @@ use Rattle.orders.specs.Tokens.{tokens_from}
 use Rattle.orders.specs.Lines.{orders, lines, Verdict}
 use Rattle.orders.specs.Reading.{left, whole_length, part_of, past_order, lines_past, Reads}
 use Rattle.orders.proofs.Narrowing.{handed_on, at_part, at_end}
-use Rattle.orders.proofs.Choosing.{goes_on, goes_nowhere, ends_here}
+use Rattle.orders.proofs.Choosing.{goes_on, goes_nowhere, past_text, ends_here}
 use Rattle.orders.proofs.form.read_form.Goals as goal
 use Rattle.orders.proofs.form.read_form.Goals.{After-text}
 
@@ -23,28 +23,28 @@ unfolding lines lines_past tokens_from
 returns-in-PA c =
     let t = c.in_ok-first.first in
     past_first ((goal.at.returns-in-PA c).After-text) _
-    (goes_on lines t c.required.new.self _ c.text.ensures (codes "PA") _ _ _ (search rules) refl (c.read_set.ensures (part_of t)))
+    (goes_on lines t c.required.new.self _ c.text.ensures _ _ _ (past_text lines (codes "PA") c.text.result.now (search rules)) (c.read_set.ensures (part_of t)))
 
 pub returns-in-PM : goal.returns-in-PM
 unfolding lines lines_past tokens_from
 returns-in-PM c =
     let t = c.in_ok-first.first in
     past_first ((goal.at.returns-in-PM c).After-text) _
-    (goes_on lines t c.required.new.self _ c.text.ensures (codes "PM") _ _ _ (search rules) refl (c.read_off.ensures (part_of t)))
+    (goes_on lines t c.required.new.self _ c.text.ensures _ _ _ (past_text lines (codes "PM") c.text.result.now (search rules)) (c.read_off.ensures (part_of t)))
 
 pub returns-in-P : goal.returns-in-P
 unfolding lines lines_past tokens_from
 returns-in-P c =
     let t = c.in_ok-first.first in
     past_first ((goal.at.returns-in-P c).After-text) _
-    (goes_on lines t c.required.new.self _ c.text.ensures (codes "P") _ _ _ (search rules) refl (c.finish.ensures ∙ ends_here (part_of t) (orders Status) _ _))
+    (goes_on lines t c.required.new.self _ c.text.ensures _ _ _ (past_text lines (codes "P") c.text.result.now (search rules)) (c.finish.ensures ∙ ends_here (part_of t) (orders Status) _ _))
 
 pub returns-in-PE : goal.returns-in-PE
 unfolding lines lines_past tokens_from
 returns-in-PE c =
     let t = c.in_ok-first.first in
     past_first ((goal.at.returns-in-PE c).After-text) _
-    (goes_on lines t c.required.new.self _ c.text.ensures (codes "PE") _ _ _ (search rules) refl (c.finish-in-PE.ensures ∙ ends_here (part_of t) (orders Cycles) _ _))
+    (goes_on lines t c.required.new.self _ c.text.ensures _ _ _ (past_text lines (codes "PE") c.text.result.now (search rules)) (c.finish-in-PE.ensures ∙ ends_here (part_of t) (orders Cycles) _ _))
 
 pub returns-in_default : goal.returns-in_default
 unfolding lines lines_past tokens_from

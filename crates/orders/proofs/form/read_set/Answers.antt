@@ -5,7 +5,7 @@ use Rattle.orders.specs.Tokens.{tokens_from}
 use Rattle.orders.specs.Lines.{orders, sets_cycle, value, written, Form, form, lines}
 use Rattle.orders.specs.Reading.{part_of, lines_past, Reads}
 use Rattle.orders.proofs.Narrowing.{handed_on}
-use Rattle.orders.proofs.Choosing.{goes_on, goes_nowhere}
+use Rattle.orders.proofs.Choosing.{goes_on, goes_nowhere, past_text}
 use Rattle.orders.proofs.form.read_set.Goals as goal
 
 -- what may follow the phrase
@@ -24,14 +24,14 @@ unfolding lines lines_past tokens_from
 returns-in-PIL c =
     let t = c.in_ok-next.next in
     c.in_ok-next.ensures first others _
-    (goes_on (first ∷ others) t c.token_behind.new.self _ c.text.ensures (codes "PIL") _ _ _ (search rules) refl (c.read_mode.ensures (part_of t)))
+    (goes_on (first ∷ others) t c.token_behind.new.self _ c.text.ensures _ _ _ (past_text (first ∷ others) (codes "PIL") c.text.result.now (search rules)) (c.read_mode.ensures (part_of t)))
 
 pub returns-in-70 : goal.returns-in-70
 unfolding lines lines_past tokens_from
 returns-in-70 c =
     let t = c.in_ok-next.next in
     c.in_ok-next.ensures first others _
-    (goes_on (first ∷ others) t c.token_behind.new.self _ c.text.ensures (codes "F.1") _ _ _ (search rules) refl (c.read_cycle.ensures (part_of t)))
+    (goes_on (first ∷ others) t c.token_behind.new.self _ c.text.ensures _ _ _ (past_text (first ∷ others) (codes "F.1") c.text.result.now (search rules)) (c.read_cycle.ensures (part_of t)))
 
 pub returns-in_default : goal.returns-in_default
 unfolding lines lines_past tokens_from

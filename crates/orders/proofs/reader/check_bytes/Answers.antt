@@ -1,6 +1,5 @@
-use Rattle.std.proofs.Common.{◌≡◌, ◌+◌, ℕ, Bool, true, false, not, cond, List, Option, Some, None, Ok, Err, ltb, length, position, sym, refl, ap, ◌∙◌}
+use Rattle.std.proofs.Common.{◌≡◌, ℕ, Bool, true, false, not, cond, List, Option, Some, None, Ok, Err, ltb, length, position, refl, ap, ◌∙◌}
 use Rattle.std.specs.List.{prefix_len, position_or_len}
-use Rattle.std.proofs.lemmas.List.Recursion.{is_position_or_len}
 use Rattle.orders.specs.Tokens.{known}
 use Rattle.orders.specs.declared.fault.ReaderFault.TheVariants.{Byte}
 use Rattle.orders.specs.Orders.{Check, byte_check}
@@ -9,20 +8,20 @@ use Rattle.orders.proofs.reader.check_bytes.Goals as goal
 abbrev unknown : ℕ → Bool
 unknown b = not (known b)
 
+not_not : (t : Bool) → not (not t) ≡ t
+not_not true = refl
+not_not false = refl
+
 -- the first byte that a line may not have stands behind those that it may
-first_unknown : (xs : List ℕ) → prefix_len known xs ≡ position_or_len unknown xs
-first_unknown = is_position_or_len (prefix_len known) unknown refl (λ x xs. go (known x) (prefix_len known xs))
-  where
-    go : (t : Bool) (n : ℕ) → cond t (1 + n) 0 ≡ cond (not t) 0 (1 + n)
-    go true n = refl
-    go false n = refl
+first_unknown : (xs : List ℕ) → position_or_len unknown xs ≡ prefix_len known xs
+first_unknown xs = λ i. prefix_len (λ b. not_not (known b) i) xs
 
 abbrev verdict : Option ℕ → Check
 verdict (Some place) = Err (Byte place)
 verdict None = Ok tt
 
 checked : (line : List ℕ) → verdict (position unknown line) ≡ byte_check line
-checked line = go (ltb n (length line)) ∙ ap (λ k. cond (ltb k (length line)) (Err (Byte k)) (Ok tt)) (sym (first_unknown line))
+checked line = go (ltb n (length line)) ∙ ap (λ k. cond (ltb k (length line)) (Err (Byte k)) (Ok tt)) (first_unknown line)
   where
     n : ℕ
     n = position_or_len unknown line

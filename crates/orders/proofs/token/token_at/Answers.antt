@@ -1,22 +1,18 @@
-use Rattle.std.proofs.Common.{◌≡◌, ℕ, ◌+◌, ◌-◌, ◌<◌, true, List, [], ◌∷◌, length, get_or, take, drop, refl, ap, ◌∙◌, arith}
+use Rattle.std.proofs.Common.{ℕ, ◌-◌, List, length, get_or, take, drop, refl, ap, ◌∙◌, arith}
 use Rattle.std.proofs.lemmas.List.{take_rest}
 use Rattle.std.specs.List.{prefix_len}
-use Rattle.orders.specs.Tokens.{part, in_word, is_mark, tokens_from}
+use Rattle.orders.specs.Tokens.{in_word}
 use Rattle.orders.proofs.Cutting.{mark_at, word_at, word_left}
 use Rattle.orders.proofs.token.token_at.Goals as goal
 
--- this mark stands here
-mark : (line : List ℕ) (n k : ℕ) → n < length line → get_or line n 0 ≡ k → is_mark k ≡ true → tokens_from n (drop n line) ≡ part (k ∷ []) n ∷ tokens_from (n + 1) (drop (n + 1) line)
-mark line n k h e m = mark_at line n h (ap is_mark e ∙ m) ∙ ap (λ b. part (b ∷ []) n ∷ tokens_from (n + 1) (drop (n + 1) line)) e
+pub returns-in-44-clause-first : goal.returns-in-44-clause-first
+returns-in-44-clause-first c = mark_at _ _ c.requires.within 44 c.in-44.is refl
 
-pub returns-in-44 : goal.returns-in-44
-returns-in-44 c = record { first = mark _ _ 44 c.requires.within c.in-44.is refl; within = omega arith }
+pub returns-in-61-clause-first : goal.returns-in-61-clause-first
+returns-in-61-clause-first c = mark_at _ _ c.requires.within 61 c.in-61.is refl
 
-pub returns-in-61 : goal.returns-in-61
-returns-in-61 c = record { first = mark _ _ 61 c.requires.within c.in-61.is refl; within = omega arith }
-
-pub returns-in-47 : goal.returns-in-47
-returns-in-47 c = record { first = mark _ _ 47 c.requires.within c.in-47.is refl; within = omega arith }
+pub returns-in-47-clause-first : goal.returns-in-47-clause-first
+returns-in-47-clause-first c = mark_at _ _ c.requires.within 47 c.in-47.is refl
 
 pub returns-in_default-clause-first : goal.returns-in_default-clause-first
 returns-in_default-clause-first c =
