@@ -1,9 +1,10 @@
 -- The first field of a text, and what is behind it.
-use Rattle.std.proofs.Common.{◌≡◌, ℕ, suc, ◌+◌, ◌-◌, ◌<◌, ◌≤◌, Bool, true, false, cond, not, eqb, List, [], ◌∷◌, length, take, drop, Some, sym, refl, add-one, one-add, arith}
-use native.Mathlib.Nat.{sub-zero}
+use Rattle.std.proofs.Common.{◌≡◌, ℕ, suc, ◌+◌, ◌<◌, ◌≤◌, Bool, true, false, cond, not, eqb, ltb, List, [], ◌∷◌, length, take, drop, Some, None, Option, Bor, position, inl, inr, sym, refl, ap, ◌∙◌, add-one, one-add, arith}
+use Rattle.std.proofs.lemmas.Bool.{cases_lt, lt-ltb, ltb-true}
+use Rattle.std.proofs.lemmas.Option.{cond_some, none-some}
+use Rattle.std.specs.Option.{is_none}
 use Rattle.plan.specs.Text.{before}
-use Rattle.std.proofs.lemmas.List.{take_rest}
-use Rattle.plan.specs.Fields.{joined_to, fields_of, first_of, behind, is_empty}
+use Rattle.plan.specs.Fields.{joined_to, fields_of, fields_in, is_empty}
 
 -- a field that a mark ends, and the fields behind that mark
 abbrev Cut : ℕ → List ℕ → Type 0
@@ -32,20 +33,18 @@ unfolding fields_of
 cut_last m [] h = refl
 cut_last m (b ∷ bs) h = last_step m b bs (eqb b m) (before m bs) (cut_last m bs) h
 
--- the first of the fields left, and those behind it, where a mark follows at k
-pub next_more : (more : Bool) (m k : ℕ) (xs : List ℕ) → more ≡ true → k ≡ before m xs → k < length xs →
-    (Some (take (k - 0) xs) ≡ first_of (cond more (fields_of m xs) [])) ×
-    (cond more (fields_of m (take (length xs - (k + 1)) (drop (k + 1) xs))) [] ≡ behind (cond more (fields_of m xs) []))
-next_more more m k xs t e h =
-    let lt : before m xs < length xs = omega arith in
-    (simp (t, cut_more m xs lt, e, sub-zero), simp (t, cut_more m xs lt, e, take_rest))
+-- what the place of the first mark says of the fields
+pub cut_at : (m k : ℕ) (xs : List ℕ) → Some k ≡ position (λ b. eqb b m) xs → fields_of m xs ≡ take k xs ∷ fields_of m (drop (k + 1) xs)
+cut_at m k xs e =
+    let at = cond_some (ltb (before m xs) (length xs)) (before m xs) k (sym e) in
+    rw (← at.1) (cut_more m xs (ltb-true (before m xs) (length xs) at.0))
 
 -- the same where no mark follows
-pub next_last : (more : Bool) (m k : ℕ) (xs : List ℕ) → more ≡ true → k ≡ before m xs → length xs ≤ k →
-    (Some xs ≡ first_of (cond more (fields_of m xs) [])) × ([] ≡ behind (cond more (fields_of m xs) []))
-next_last more m k xs t e h =
-    let le : length xs ≤ before m xs = omega arith in
-    (simp (t, cut_last m xs le), simp (t, cut_last m xs le))
+pub uncut : (m : ℕ) (xs : List ℕ) → None ≡ position (λ b. eqb b m) xs → fields_of m xs ≡ xs ∷ []
+uncut m xs e = cut_last m xs (elim (cases_lt (before m xs) (length xs)) [
+  | inl h ↦ absurd (none-some (before m xs) (e ∙ ap (λ b. cond b (Some (before m xs)) None) (lt-ltb (before m xs) (length xs) h)))
+  | inr h ↦ h
+])
 
 some_joined : (t : Bool) (b : ℕ) (fs : List (List ℕ)) → is_empty (joined_to t b fs) ≡ false
 some_joined true b fs = refl
@@ -58,6 +57,6 @@ unfolding fields_of
 some_fields m [] = refl
 some_fields m (b ∷ bs) = some_joined (eqb b m) b (fields_of m bs)
 
-pub none_left : (more : Bool) (m : ℕ) (xs : List ℕ) → not more ≡ is_empty (cond more (fields_of m xs) [])
-none_left true m xs = sym (some_fields m xs)
-none_left false m xs = refl
+pub none_left : (m : ℕ) (rest : Option (Bor (List ℕ))) → is_none rest ≡ is_empty (fields_in m rest)
+none_left m None = refl
+none_left m (Some rest) = sym (some_fields m rest.now)

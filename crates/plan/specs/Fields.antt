@@ -1,5 +1,6 @@
 -- The fields of a text.
-use Rattle.std.specs.Prelude.{ℕ, Bool, true, false, cond, List, [], ◌∷◌, Some, None, Option, ◌==◌}
+use Rattle.std.specs.Prelude.{ℕ, ◌+◌, min, Bool, true, false, List, [], ◌∷◌, Some, None, Option, ◌==◌}
+use Rattle.std.specs.Borrow.{Bor}
 use Rattle.plan.specs.declared.fields.Fields.{Fields}
 
 -- the byte b before fields, where a mark begins a new one
@@ -13,9 +14,22 @@ unfoldable pub fields_of : ℕ → List ℕ → List (List ℕ)
 fields_of m [] = [] ∷ []
 fields_of m (b ∷ bs) = joined_to (b == m) b (fields_of m bs)
 
+-- fields one behind the other, and the number of the first of them
+pub record Numbered : Type 0 where
+  pub number : ℕ
+  pub fields : List (List ℕ)
+
+-- all fields of a text
+abbrev pub all_fields : ℕ → List ℕ → Numbered
+all_fields m bs = record { number = 1; fields = fields_of m bs }
+
+abbrev pub fields_in : ℕ → Option (Bor (List ℕ)) → List (List ℕ)
+fields_in m None = []
+fields_in m (Some rest) = fields_of m rest.now
+
 -- the fields that are left to read
-unfoldable pub fields_left : Fields → List (List ℕ)
-fields_left f = cond f.more (fields_of f.mark f.rest.now) []
+unfoldable pub fields_left : Fields → Numbered
+fields_left f = record { number = f.number; fields = fields_in f.mark f.rest }
 
 abbrev pub first_of : {A : Type 0} → List A → Option A
 first_of [] = None
@@ -29,3 +43,11 @@ behind (x ∷ xs) = xs
 abbrev pub is_empty : {A : Type 0} → List A → Bool
 is_empty [] = true
 is_empty (x ∷ xs) = false
+
+-- the number after n: the count stops at the largest number that a fault can tell
+abbrev pub counted : ℕ → ℕ
+counted n = min (n + 1) 4294967295
+
+-- the fields behind the first of these
+abbrev pub past : Numbered → Numbered
+past fs = record { number = counted fs.number; fields = behind fs.fields }

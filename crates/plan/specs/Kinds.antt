@@ -6,11 +6,11 @@ use Rattle.plan.specs.declared.kind.Kind.TheVariants.{Sheet, Strategy, Head, Cal
 use Rattle.plan.specs.declared.row.RowFault.{RowFault}
 use Rattle.plan.specs.declared.row.RowFault.TheVariants.{UnknownKind, Bad}
 use Rattle.plan.specs.declared.row.Wanted.TheVariants.{Buffer}
-use Rattle.plan.specs.Fields.{fields_of, behind, is_empty}
-use Rattle.plan.specs.Values.{with, number_in}
+use Rattle.plan.specs.Fields.{fields_of, first_of, behind, is_empty}
+use Rattle.plan.specs.Values.{given, with, number_in}
 use Rattle.plan.specs.Words.{reads}
 
-abbrev pub word_kind : List ℕ → Option Kind
+unfoldable pub word_kind : List ℕ → Option Kind
 word_kind t =
     cond (reads t (codes "second")) (Some Second)
     (cond (reads t (codes "seconds")) (Some Seconds)
@@ -40,5 +40,4 @@ or_line (Some k) t = Ok k
 or_line None t = line_in (fields_of 47 t)
 
 abbrev pub kind_in : List (List ℕ) → Result Kind RowFault
-kind_in [] = Err UnknownKind
-kind_in (f ∷ fs) = or_line (word_kind f) f
+kind_in fs = given (ok_or (first_of fs) UnknownKind) (λ f. or_line (word_kind f) f)

@@ -6,6 +6,7 @@ use Rattle.plan.specs.declared.row.Lanes.{Lanes}
 use Rattle.sheet.specs.declared.calendar.MinuteRange.{MinuteRange}
 use Rattle.plan.specs.declared.row.RowFault.{RowFault}
 use Rattle.plan.specs.declared.row.Wanted.TheVariants.{Lane, Range}
+use Rattle.plan.specs.Fields.{Numbered}
 use Rattle.plan.specs.Several.{at_most}
 use Rattle.plan.specs.Values.{given, lane_of, range_of}
 
@@ -25,9 +26,9 @@ no_reading = record { seen = 0; sound = 0; busy_ms = 0 }
 abbrev pub lanes_with : List LaneReading → Lanes
 lanes_with rs = record { readings = padded 16 no_reading rs; count = length rs }
 
--- 0 to 16 lanes, the first of them in the field n
-abbrev pub lanes_of : ℕ → List (List ℕ) → Result Lanes RowFault
-lanes_of n fs = given (at_most lane_of Lane 16 n fs) (λ rs. Ok (lanes_with rs))
+-- 0 to 16 lanes
+abbrev pub lanes_of : Numbered → Result Lanes RowFault
+lanes_of fs = given (at_most lane_of Lane 16 fs) (λ rs. Ok (lanes_with rs))
 
 abbrev pub no_range : MinuteRange
 no_range = record { from = 0; to = 0 }
@@ -36,5 +37,5 @@ abbrev pub calendar_with : List MinuteRange → Calendar
 calendar_with rs = record { ranges = padded 64 no_range rs; count = length rs }
 
 -- 0 to 64 ranges
-abbrev pub calendar_of : List (List ℕ) → Result Calendar RowFault
-calendar_of fs = given (at_most range_of Range 64 2 fs) (λ rs. Ok (calendar_with rs))
+abbrev pub calendar_of : Numbered → Result Calendar RowFault
+calendar_of fs = given (at_most range_of Range 64 fs) (λ rs. Ok (calendar_with rs))

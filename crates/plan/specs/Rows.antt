@@ -7,7 +7,7 @@ use Rattle.plan.specs.declared.row.Row.TheVariants.{Blank, Sheet, Strategy, Head
 use Rattle.plan.specs.declared.row.RowFault.{RowFault}
 use Rattle.plan.specs.declared.row.Wanted.TheVariants.{Number, Head as AHead}
 use Rattle.plan.specs.Decimal.{decimal}
-use Rattle.plan.specs.Fields.{fields_of, behind}
+use Rattle.plan.specs.Fields.{Numbered, all_fields, past}
 use Rattle.plan.specs.Kinds.{kind_in}
 use Rattle.plan.specs.Lists.{calendar_of}
 use Rattle.plan.specs.Seconds.{second_of, seconds_of}
@@ -22,30 +22,30 @@ is_blank [] = true
 is_blank (b ∷ bs) = b == 35
 
 -- exactly 22 numbers
-abbrev pub sheet_of : List (List ℕ) → Result Row RowFault
-sheet_of fs = given (exactly decimal Number 22 2 fs) (λ xs. Ok (Sheet xs))
+abbrev pub sheet_of : Numbered → Result Row RowFault
+sheet_of fs = given (exactly decimal Number 22 fs) (λ xs. Ok (Sheet xs))
 
 -- one lamp head
-abbrev pub head_row_of : List (List ℕ) → Result Row RowFault
+abbrev pub head_row_of : Numbered → Result Row RowFault
 head_row_of fs =
-    given (value_at head_of AHead 2 fs) (λ h.
-    given (end_at 3 (behind fs)) (λ _.
+    given (value_at head_of AHead fs) (λ h.
+    given (end_at (past fs)) (λ _.
     Ok (Head h)))
 
--- the row of this kind, whose second field is the first of these
-abbrev pub row_as : Kind → List (List ℕ) → Result Row RowFault
+-- the row of this kind, from the fields behind its first
+abbrev pub row_as : Kind → Numbered → Result Row RowFault
 row_as kind.Sheet fs = sheet_of fs
 row_as kind.Strategy fs = given (strategy_of fs) (λ s. Ok (Strategy s))
 row_as kind.Head fs = head_row_of fs
 row_as kind.Calendar fs = given (calendar_of fs) (λ c. Ok (Calendar c))
-row_as kind.Second fs = given (second_of 2 fs) (λ s. Ok (Second s))
+row_as kind.Second fs = given (second_of fs) (λ s. Ok (Second s))
 row_as kind.Seconds fs = seconds_of fs
 row_as (kind.Line b) fs = Ok (Line b)
-row_as kind.Reset fs = given (end_at 2 fs) (λ _. Ok Reset)
+row_as kind.Reset fs = given (end_at fs) (λ _. Ok Reset)
 
-abbrev pub row_in : List (List ℕ) → Result Row RowFault
-row_in fs = given (kind_in fs) (λ k. row_as k (behind fs))
+abbrev pub row_in : Numbered → Result Row RowFault
+row_in fs = given (kind_in fs.fields) (λ k. row_as k (past fs))
 
--- what a row says: cut at `;` (59), its first field is its kind
+-- what a row says: cut at `;` (59), its first field is its kind and has the number 1
 unfoldable pub row_of : List ℕ → Result Row RowFault
-row_of t = cond (is_blank t) (Ok Blank) (row_in (fields_of 59 t))
+row_of t = cond (is_blank t) (Ok Blank) (row_in (all_fields 59 t))

@@ -7,22 +7,22 @@ use Rattle.plan.specs.declared.row.RowFault.TheVariants.{Missing, Bad, Surplus}
 use Rattle.sheet.specs.declared.calendar.MinuteRange.{MinuteRange}
 use Rattle.plan.specs.declared.row.Wanted.{Wanted}
 use Rattle.plan.specs.Decimal.{decimal}
-use Rattle.plan.specs.Fields.{fields_of, first_of, behind, is_empty}
-
--- the value in the first of these fields, whose number is n; w is wanted there
-abbrev pub value_at : {A : Type 0} → (List ℕ → Option A) → Wanted → ℕ → List (List ℕ) → Result A RowFault
-value_at means w n [] = Err (Missing n w)
-value_at means w n (f ∷ fs) = ok_or (means f) (Bad n w)
-
--- a row that should end here, at the field n
-abbrev pub end_at : ℕ → List (List ℕ) → Result (Unit {0}) RowFault
-end_at n [] = Ok tt
-end_at n (f ∷ fs) = Err (Surplus n)
+use Rattle.plan.specs.Fields.{Numbered, fields_of, first_of, behind, is_empty}
 
 -- what a row says on, unless a field before was wrong
 abbrev pub given : {A B : Type 0} → Result A RowFault → (A → Result B RowFault) → Result B RowFault
 given (Ok x) k = k x
 given (Err e) k = Err e
+
+-- the value in the first of these fields; w is wanted there
+abbrev pub value_at : {A : Type 0} → (List ℕ → Option A) → Wanted → Numbered → Result A RowFault
+value_at means w fs =
+    given (ok_or (first_of fs.fields) (Missing fs.number w)) (λ f.
+    ok_or (means f) (Bad fs.number w))
+
+-- a row that should end before these fields
+abbrev pub end_at : Numbered → Result (Unit {0}) RowFault
+end_at fs = cond (is_empty fs.fields) (Ok tt) (Err (Surplus fs.number))
 
 -- 0 or 1
 abbrev pub is_present : Option ℕ → Option Bool

@@ -13,8 +13,8 @@ use Rattle.plan.specs.declared.words.StrategyWord.TheVariants.{Limiter, Of}
 use Rattle.plan.specs.Decimal.{decimal}
 
 -- is this the text?
-unfoldable pub reads : List ℕ → List ℕ → Bool
-reads t w = bytes_eq t w
+abbrev pub reads : List ℕ → List ℕ → Bool
+reads t w = bytes_eq w t
 
 -- the word of the lamps: `ok` or a number
 abbrev pub word_of : List ℕ → Option Word

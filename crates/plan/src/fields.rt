@@ -1,53 +1,63 @@
 // Taking a text apart at its marks.
 ghost use Rattle.std.specs.Prelude.{◌≡◌};
 ghost use Rattle.std.specs.Option.{option_map};
-ghost use Rattle.plan.specs.Fields.{fields_of, fields_left, first_of, behind, is_empty};
+ghost use Rattle.plan.specs.Fields.{all_fields, fields_left, first_of, past, is_empty};
 
 use crate::text::find;
 
-// The fields of a text that are left to read. A text of n marks has n + 1 fields.
+// The fields of a text that are left to read, and the number of the next of them. A text of n marks has n + 1 fields.
 #[derive(Clone, Copy)]
 pub struct Fields<'a> {
-    rest: &'a [u8],
-    more: bool,
+    rest: Option<&'a [u8]>,
     mark: u8,
+    number: u32,
 }
 
 impl<'a> Fields<'a> {
-    // All fields of a text.
+    // All fields of a text, counted from 1.
+    #[tactic(auto, unfolding(crate::specs::Fields::fields_left))]
     pub(crate) fn of(text: &'a [u8], mark: u8) -> Fields<'a>
-        ensures { fields_left result ≡ fields_of mark text.now }
+        ensures { fields_left result ≡ all_fields mark text.now }
     {
         Fields {
-            rest: text,
-            more: true,
+            rest: Some(text),
             mark,
+            number: 1,
         }
     }
 
-    // Is no field left?
-    pub(crate) fn is_empty(&self) -> bool
-        ensures { result ≡ is_empty (fields_left self.now) }
+    // The number of the next field.
+    #[tactic(auto, unfolding(crate::specs::Fields::fields_left))]
+    pub(crate) fn number(&self) -> u32
+        ensures { result ≡ (fields_left self.now).number }
     {
-        !self.more
+        self.number
+    }
+
+    // Is no field left?
+    #[tactic(auto, using(crate::proofs::Cuts::none_left), unfolding(crate::specs::Fields::fields_left))]
+    pub(crate) fn is_empty(&self) -> bool
+        ensures { result ≡ is_empty (fields_left self.now).fields }
+    {
+        self.rest.is_none()
     }
 
     // The next field, if one is left.
     pub(crate) fn next(&mut self) -> Option<&'a [u8]>
-        ensures value { option_map (λ x. x.now) result ≡ first_of (fields_left self.old) }
-        ensures after { fields_left self.new ≡ behind (fields_left self.old) }
+        ensures value { option_map (λ x. x.now) result ≡ first_of (fields_left self.old).fields }
+        ensures after { fields_left self.new ≡ past (fields_left self.old) }
     {
-        if !self.more {
-            return None;
-        }
-        let text = self.rest;
-        let end = find(text, self.mark);
-        if end < text.len() {
-            self.rest = &text[end + 1..];
-            Some(&text[0..end])
-        } else {
-            self.more = false;
-            Some(text)
+        self.number = self.number.saturating_add(1);
+        let text = self.rest?;
+        match find(text, self.mark) {
+            Some(end) => {
+                self.rest = Some(&text[end + 1..]);
+                Some(&text[..end])
+            }
+            None => {
+                self.rest = None;
+                Some(text)
+            }
         }
     }
 }

@@ -1,7 +1,7 @@
 // The fields that hold numbers: figures, presence, lane readings and ranges.
 ghost use Rattle.std.specs.Prelude.{◌≡◌};
 ghost use Rattle.plan.specs.Decimal.{decimal};
-ghost use Rattle.plan.specs.Fields.{fields_left, behind};
+ghost use Rattle.plan.specs.Fields.{fields_left, past};
 ghost use Rattle.plan.specs.Values.{number_in, presence_of, lane_of, range_of};
 ghost use Rattle.plan.specs.declared.row.Wanted.TheVariants.{Number, Presence, Lane, Range};
 
@@ -47,13 +47,10 @@ impl Value for bool {
 
 // The number that the next part of a field writes.
 pub(crate) fn next_number(parts: &mut Fields<'_>) -> Option<u32>
-    ensures value { result ≡ number_in (fields_left parts.old) }
-    ensures after { fields_left parts.new ≡ behind (fields_left parts.old) }
+    ensures value { result ≡ number_in (fields_left parts.old).fields }
+    ensures after { fields_left parts.new ≡ past (fields_left parts.old) }
 {
-    match parts.next() {
-        Some(text) => read_number(text),
-        None => None,
-    }
+    read_number(parts.next()?)
 }
 
 // `SEEN|SOUND|BUSY`

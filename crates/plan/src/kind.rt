@@ -1,12 +1,11 @@
 // The kinds of rows, by their first field.
 ghost use Rattle.std.specs.Prelude.{◌≡◌};
-ghost use Rattle.plan.specs.Fields.{fields_of, fields_left, behind};
+ghost use Rattle.plan.specs.Fields.{fields_of, fields_left, past};
 ghost use Rattle.plan.specs.Kinds.{word_kind, buffer_in, line_in, kind_in};
 
 use crate::fields::Fields;
 use crate::figures::next_number;
 use crate::row::{RowFault, Wanted};
-use crate::words::is;
 
 // What the first field of a row says.
 #[derive(Clone, Copy)]
@@ -22,31 +21,25 @@ pub(crate) enum Kind {
 }
 
 // The kind of this name, where the name is all.
+#[tactic(auto, unfolding(crate::specs::Kinds::word_kind))]
 fn named_kind(text: &[u8]) -> Option<Kind>
     ensures { result ≡ word_kind text.now }
 {
-    if is(text, b"second") {
-        Some(Kind::Second)
-    } else if is(text, b"seconds") {
-        Some(Kind::Seconds)
-    } else if is(text, b"sheet") {
-        Some(Kind::Sheet)
-    } else if is(text, b"strategy") {
-        Some(Kind::Strategy)
-    } else if is(text, b"head") {
-        Some(Kind::Head)
-    } else if is(text, b"calendar") {
-        Some(Kind::Calendar)
-    } else if is(text, b"reset") {
-        Some(Kind::Reset)
-    } else {
-        None
+    match text {
+        b"second" => Some(Kind::Second),
+        b"seconds" => Some(Kind::Seconds),
+        b"sheet" => Some(Kind::Sheet),
+        b"strategy" => Some(Kind::Strategy),
+        b"head" => Some(Kind::Head),
+        b"calendar" => Some(Kind::Calendar),
+        b"reset" => Some(Kind::Reset),
+        _ => None,
     }
 }
 
 // A line, from what stands behind the `/`: an answer buffer of at most 1,000 bytes, and of 80 where nothing is said.
 fn read_buffer(parts: &mut Fields<'_>) -> Result<Kind, RowFault>
-    ensures { result ≡ buffer_in (fields_left parts.old) }
+    ensures { result ≡ buffer_in (fields_left parts.old).fields }
 {
     if parts.is_empty() {
         return Ok(Kind::Line { buffer: 80 });
@@ -66,19 +59,17 @@ fn line_kind(text: &[u8]) -> Result<Kind, RowFault>
 {
     let mut parts = Fields::of(text, b'/');
     match parts.next() {
-        Some(word) if is(word, b"line") => read_buffer(&mut parts),
+        Some(b"line") => read_buffer(&mut parts),
         _ => Err(RowFault::UnknownKind),
     }
 }
 
 // The kind of a row, from its first field.
 pub(crate) fn next_kind(fields: &mut Fields<'_>) -> Result<Kind, RowFault>
-    ensures value { result ≡ kind_in (fields_left fields.old) }
-    ensures after { fields_left fields.new ≡ behind (fields_left fields.old) }
+    ensures value { result ≡ kind_in (fields_left fields.old).fields }
+    ensures after { fields_left fields.new ≡ past (fields_left fields.old) }
 {
-    let Some(text) = fields.next() else {
-        return Err(RowFault::UnknownKind);
-    };
+    let text = fields.next().ok_or(RowFault::UnknownKind)?;
     match named_kind(text) {
         Some(kind) => Ok(kind),
         None => line_kind(text),

@@ -27,7 +27,7 @@ fn read_sheet(fields: &mut Fields<'_>) -> Result<Row, RowFault>
     ensures { result ≡ sheet_of (fields_left fields.old) }
 {
     let mut figures = [0; 22];
-    fill_up(fields, 2, &mut figures)?;
+    fill_up(fields, &mut figures)?;
     Ok(Row::Sheet(figures))
 }
 
@@ -35,8 +35,8 @@ fn read_sheet(fields: &mut Fields<'_>) -> Result<Row, RowFault>
 fn read_head(fields: &mut Fields<'_>) -> Result<Row, RowFault>
     ensures { result ≡ head_row_of (fields_left fields.old) }
 {
-    let kind = next_value(fields, 2)?;
-    expect_end(fields, 3)?;
+    let kind = next_value(fields)?;
+    expect_end(fields)?;
     Ok(Row::Head(kind))
 }
 
@@ -49,11 +49,11 @@ fn read_as(kind: Kind, fields: &mut Fields<'_>) -> Result<Row, RowFault>
         Kind::Strategy => Ok(Row::Strategy(read_strategy(fields)?)),
         Kind::Head => read_head(fields),
         Kind::Calendar => Ok(Row::Calendar(read_calendar(fields)?)),
-        Kind::Second => Ok(Row::Second(read_second(fields, 2)?)),
+        Kind::Second => Ok(Row::Second(read_second(fields)?)),
         Kind::Seconds => read_seconds(fields),
         Kind::Line { buffer } => Ok(Row::Line { buffer }),
         Kind::Reset => {
-            expect_end(fields, 2)?;
+            expect_end(fields)?;
             Ok(Row::Reset)
         }
     }

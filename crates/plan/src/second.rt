@@ -1,5 +1,5 @@
 // The row that tells of a second.
-ghost use Rattle.std.specs.Prelude.{◌≡◌, ◌≤◌};
+ghost use Rattle.std.specs.Prelude.{◌≡◌};
 ghost use Rattle.plan.specs.Fields.{fields_left};
 ghost use Rattle.plan.specs.Seconds.{second_of, seconds_of};
 
@@ -8,16 +8,15 @@ use crate::row::lists::read_lanes;
 use crate::row::{Row, RowFault, SecondRow};
 use crate::value::next_value;
 
-// The second that the fields left tell of. `first` is the number of the first of them.
-pub(crate) fn read_second(fields: &mut Fields<'_>, first: u32) -> Result<SecondRow, RowFault>
-    requires { first ≤ 3 }
-    ensures { result ≡ second_of first (fields_left fields.old) }
+// The second that the fields left tell of.
+pub(crate) fn read_second(fields: &mut Fields<'_>) -> Result<SecondRow, RowFault>
+    ensures { result ≡ second_of (fields_left fields.old) }
 {
-    let presence = next_value(fields, first)?;
-    let queue_ms = next_value(fields, first + 1)?;
-    let word = next_value(fields, first + 2)?;
-    let minute = next_value(fields, first + 3)?;
-    let lanes = read_lanes(fields, first + 4)?;
+    let presence = next_value(fields)?;
+    let queue_ms = next_value(fields)?;
+    let word = next_value(fields)?;
+    let minute = next_value(fields)?;
+    let lanes = read_lanes(fields)?;
     Ok(SecondRow {
         presence,
         queue_ms,
@@ -31,7 +30,7 @@ pub(crate) fn read_second(fields: &mut Fields<'_>, first: u32) -> Result<SecondR
 pub(crate) fn read_seconds(fields: &mut Fields<'_>) -> Result<Row, RowFault>
     ensures { result ≡ seconds_of (fields_left fields.old) }
 {
-    let count = next_value(fields, 2)?;
-    let second = read_second(fields, 3)?;
+    let count = next_value(fields)?;
+    let second = read_second(fields)?;
     Ok(Row::Seconds { count, second })
 }

@@ -1,5 +1,5 @@
 // The row that names a strategy, with up to two limiters over it.
-ghost use Rattle.std.specs.Prelude.{◌≡◌, ◌≤◌};
+ghost use Rattle.std.specs.Prelude.{◌≡◌};
 ghost use Rattle.plan.specs.Fields.{fields_left};
 ghost use Rattle.plan.specs.Strategies.{base_as, strategy_of, limited_of, twice_of};
 
@@ -10,18 +10,17 @@ use crate::value::{expect_end, next_value};
 use crate::words::{BaseWord, StrategyWord};
 
 // The strategy of this name, from the fields behind the name.
-fn read_base(fields: &mut Fields<'_>, word: BaseWord, first: u32) -> Result<Base, RowFault>
-    requires { first ≤ 7 }
-    ensures { result ≡ base_as word first (fields_left fields.old) }
+fn read_base(fields: &mut Fields<'_>, word: BaseWord) -> Result<Base, RowFault>
+    ensures { result ≡ base_as word (fields_left fields.old) }
 {
     match word {
         BaseWord::Alinea => {
-            expect_end(fields, first)?;
+            expect_end(fields)?;
             Ok(Base::Alinea)
         }
         BaseWord::Plan => {
             let mut cycles = [0; 24];
-            fill_up(fields, first, &mut cycles)?;
+            fill_up(fields, &mut cycles)?;
             Ok(Base::Hourly(cycles))
         }
     }
@@ -31,9 +30,9 @@ fn read_base(fields: &mut Fields<'_>, word: BaseWord, first: u32) -> Result<Base
 fn read_twice(fields: &mut Fields<'_>, outer: u32) -> Result<StrategyRow, RowFault>
     ensures { result ≡ twice_of outer (fields_left fields.old) }
 {
-    let inner = next_value(fields, 5)?;
-    let word = next_value(fields, 6)?;
-    let base = read_base(fields, word, 7)?;
+    let inner = next_value(fields)?;
+    let word = next_value(fields)?;
+    let base = read_base(fields, word)?;
     Ok(StrategyRow {
         limits: Limits::Twice { outer, inner },
         base,
@@ -44,11 +43,11 @@ fn read_twice(fields: &mut Fields<'_>, outer: u32) -> Result<StrategyRow, RowFau
 fn read_limited(fields: &mut Fields<'_>) -> Result<StrategyRow, RowFault>
     ensures { result ≡ limited_of (fields_left fields.old) }
 {
-    let step = next_value(fields, 3)?;
-    match next_value(fields, 4)? {
+    let step = next_value(fields)?;
+    match next_value(fields)? {
         StrategyWord::Limiter => read_twice(fields, step),
         StrategyWord::Of(word) => {
-            let base = read_base(fields, word, 5)?;
+            let base = read_base(fields, word)?;
             Ok(StrategyRow {
                 limits: Limits::Once(step),
                 base,
@@ -61,10 +60,10 @@ fn read_limited(fields: &mut Fields<'_>) -> Result<StrategyRow, RowFault>
 pub(crate) fn read_strategy(fields: &mut Fields<'_>) -> Result<StrategyRow, RowFault>
     ensures { result ≡ strategy_of (fields_left fields.old) }
 {
-    match next_value(fields, 2)? {
+    match next_value(fields)? {
         StrategyWord::Limiter => read_limited(fields),
         StrategyWord::Of(word) => {
-            let base = read_base(fields, word, 3)?;
+            let base = read_base(fields, word)?;
             Ok(StrategyRow {
                 limits: Limits::Unlimited,
                 base,

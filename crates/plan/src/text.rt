@@ -1,6 +1,7 @@
 // What a row of a plan is once its ends are cut off.
-ghost use Rattle.std.specs.Prelude.{◌≡◌};
-ghost use Rattle.plan.specs.Text.{without_last, without_end, unpadded, without_bom, before, row_text, command_text};
+ghost use Rattle.std.specs.Prelude.{◌≡◌, ◌==◌};
+ghost use Rattle.std.specs.List.{position};
+ghost use Rattle.plan.specs.Text.{without_last, without_end, unpadded, without_bom, row_text, command_text};
 
 // The text without this byte at its end, if it has it there.
 fn without_last(text: &[u8], byte: u8) -> &[u8]
@@ -26,11 +27,11 @@ fn without_end(raw: &[u8]) -> &[u8]
 fn without_padding(text: &[u8]) -> &[u8]
     ensures { result.now ≡ unpadded text.now }
 {
-    let mut end = text.len();
-    while end > 0 && text[end - 1] == b';' {
-        end -= 1;
+    let mut row = text;
+    while let [front @ .., b';'] = row {
+        row = front;
     }
-    &text[0..end]
+    row
 }
 
 // The row behind a byte order mark, if it begins with one.
@@ -51,26 +52,19 @@ pub fn row_text(raw: &[u8], first: bool) -> &[u8]
     if first { without_bom(row) } else { row }
 }
 
-// How many bytes stand before the first mark: all of them where there is none.
-pub(crate) fn find(text: &[u8], mark: u8) -> usize
-    ensures { result ≡ before mark text.now }
+// Where the first mark stands, if there is one.
+pub(crate) fn find(text: &[u8], mark: u8) -> Option<usize>
+    ensures { result ≡ position (λ b. b == mark) text.now }
 {
-    for (i, byte) in text.iter().enumerate() {
-        if *byte == mark {
-            return i;
-        }
-    }
-    text.len()
+    text.iter().position(|byte| *byte == mark)
 }
 
 // What stands behind the first separator of a row, or nothing.
 pub fn command_text(row: &[u8]) -> &[u8]
     ensures { result.now ≡ command_text row.now }
 {
-    let end = find(row, b';');
-    if end < row.len() {
-        &row[end + 1..]
-    } else {
-        &row[end..]
+    match find(row, b';') {
+        Some(end) => &row[end + 1..],
+        None => &[],
     }
 }

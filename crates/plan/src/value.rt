@@ -1,7 +1,7 @@
 // What stands in one field of a row.
 ghost use Rattle.std.specs.Prelude.{◌≡◌, ℕ, List, Option};
 ghost use Rattle.plan.specs.declared.row.Wanted.{Wanted};
-ghost use Rattle.plan.specs.Fields.{fields_left, behind};
+ghost use Rattle.plan.specs.Fields.{fields_left, past};
 ghost use Rattle.plan.specs.Values.{value_at, end_at};
 
 use crate::fields::Fields;
@@ -22,28 +22,26 @@ pub(crate) trait Value: Copy {
         ensures { result ≡ named };
 }
 
-// The value in the next field, whose number is `at`.
-pub(crate) fn next_value<T: Value>(fields: &mut Fields<'_>, at: u32) -> Result<T, RowFault>
-    ensures value { result ≡ value_at T.Value.means T.Value.named at (fields_left fields.old) }
-    ensures after { fields_left fields.new ≡ behind (fields_left fields.old) }
+// The value in the next field.
+pub(crate) fn next_value<T: Value>(fields: &mut Fields<'_>) -> Result<T, RowFault>
+    ensures value { result ≡ value_at T.Value.means T.Value.named (fields_left fields.old) }
+    ensures after { fields_left fields.new ≡ past (fields_left fields.old) }
 {
+    let field = fields.number();
     let wanted = T::wanted();
-    let Some(text) = fields.next() else {
-        return Err(RowFault::Missing { field: at, wanted });
-    };
-    match T::read(text) {
-        Some(value) => Ok(value),
-        None => Err(RowFault::Bad { field: at, wanted }),
-    }
+    let text = fields.next().ok_or(RowFault::Missing { field, wanted })?;
+    T::read(text).ok_or(RowFault::Bad { field, wanted })
 }
 
-// That no field is left: one that is, of the number `at`, is surplus.
-pub(crate) fn expect_end(fields: &Fields<'_>, at: u32) -> Result<(), RowFault>
-    ensures { result ≡ end_at at (fields_left fields.now) }
+// That no field is left: one that is, is surplus.
+pub(crate) fn expect_end(fields: &Fields<'_>) -> Result<(), RowFault>
+    ensures { result ≡ end_at (fields_left fields.now) }
 {
     if fields.is_empty() {
         Ok(())
     } else {
-        Err(RowFault::Surplus { field: at })
+        Err(RowFault::Surplus {
+            field: fields.number(),
+        })
     }
 }

@@ -1,18 +1,11 @@
 // The fields that hold words: the lamps' word, heads and strategies.
 ghost use Rattle.std.specs.Prelude.{◌≡◌};
-ghost use Rattle.plan.specs.Words.{reads, word_of, head_of, base_of, strategy_word_of};
+ghost use Rattle.plan.specs.Words.{word_of, head_of, base_of, strategy_word_of};
 ghost use Rattle.plan.specs.declared.row.Wanted.TheVariants.{Word as AWord, Head, Base, Strategy};
 
 use crate::number::read_number;
 use crate::row::{HeadKind, Wanted, Word};
 use crate::value::Value;
-
-// Is this the text of the field?
-pub(crate) fn is(text: &[u8], word: &[u8]) -> bool
-    ensures { result ≡ reads text.now word.now }
-{
-    text == word
-}
 
 // A number, or `ok`.
 impl Value for Word {
@@ -21,12 +14,9 @@ impl Value for Word {
     ghost named = { AWord };
 
     fn read(text: &[u8]) -> Option<Word> {
-        if is(text, b"ok") {
-            return Some(Word::Lit);
-        }
-        match read_number(text) {
-            Some(word) => Some(Word::Given(word)),
-            None => None,
+        match text {
+            b"ok" => Some(Word::Lit),
+            _ => read_number(text).map(Word::Given),
         }
     }
 
@@ -41,12 +31,10 @@ impl Value for HeadKind {
     ghost named = { Head };
 
     fn read(text: &[u8]) -> Option<HeadKind> {
-        if is(text, b"relay") {
-            Some(HeadKind::Relay)
-        } else if is(text, b"current") {
-            Some(HeadKind::Current)
-        } else {
-            None
+        match text {
+            b"relay" => Some(HeadKind::Relay),
+            b"current" => Some(HeadKind::Current),
+            _ => None,
         }
     }
 
@@ -68,12 +56,10 @@ impl Value for BaseWord {
     ghost named = { Base };
 
     fn read(text: &[u8]) -> Option<BaseWord> {
-        if is(text, b"alinea") {
-            Some(BaseWord::Alinea)
-        } else if is(text, b"plan") {
-            Some(BaseWord::Plan)
-        } else {
-            None
+        match text {
+            b"alinea" => Some(BaseWord::Alinea),
+            b"plan" => Some(BaseWord::Plan),
+            _ => None,
         }
     }
 
@@ -95,12 +81,9 @@ impl Value for StrategyWord {
     ghost named = { Strategy };
 
     fn read(text: &[u8]) -> Option<StrategyWord> {
-        if is(text, b"limiter") {
-            return Some(StrategyWord::Limiter);
-        }
-        match <BaseWord as Value>::read(text) {
-            Some(word) => Some(StrategyWord::Of(word)),
-            None => None,
+        match text {
+            b"limiter" => Some(StrategyWord::Limiter),
+            _ => BaseWord::read(text).map(StrategyWord::Of),
         }
     }
 

@@ -1,5 +1,5 @@
 // Lane readings and ranges of minutes, as many as a row has.
-ghost use Rattle.std.specs.Prelude.{◌≡◌, ◌≤◌};
+ghost use Rattle.std.specs.Prelude.{◌≡◌};
 ghost use Rattle.plan.specs.Fields.{fields_left};
 ghost use Rattle.plan.specs.Lists.{lanes_in, ranges_in, lanes_of, calendar_of};
 
@@ -28,9 +28,8 @@ impl Calendar {
 }
 
 // The lane readings in the fields that are left.
-pub(crate) fn read_lanes(fields: &mut Fields<'_>, first: u32) -> Result<Lanes, RowFault>
-    requires { first ≤ 100 }
-    ensures { result ≡ lanes_of first (fields_left fields.old) }
+pub(crate) fn read_lanes(fields: &mut Fields<'_>) -> Result<Lanes, RowFault>
+    ensures { result ≡ lanes_of (fields_left fields.old) }
 {
     let none = LaneReading {
         seen: 0,
@@ -38,7 +37,7 @@ pub(crate) fn read_lanes(fields: &mut Fields<'_>, first: u32) -> Result<Lanes, R
         busy_ms: 0,
     };
     let mut readings = [none; 16];
-    let count = fill(fields, first, &mut readings)?;
+    let count = fill(fields, &mut readings)?;
     Ok(Lanes { readings, count })
 }
 
@@ -47,6 +46,6 @@ pub(crate) fn read_calendar(fields: &mut Fields<'_>) -> Result<Calendar, RowFaul
     ensures { result ≡ calendar_of (fields_left fields.old) }
 {
     let mut ranges = [MinuteRange { from: 0, to: 0 }; 64];
-    let count = fill(fields, 2, &mut ranges)?;
+    let count = fill(fields, &mut ranges)?;
     Ok(Calendar { ranges, count })
 }

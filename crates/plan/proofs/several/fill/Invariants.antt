@@ -1,12 +1,9 @@
-use Rattle.std.proofs.Common.{◌-◌, length}
+use Rattle.std.proofs.Common.{◌≡◌}
 use Rattle.plan.specs.Fields.{fields_left}
+use Rattle.plan.specs.Several.{at_most}
 use Rattle.plan.proofs.Reading.{Reading}
 use Rattle.plan.proofs.several.fill.Given as goal
 
-abbrev pub invariant-loop-at : goal.invariant-loop-at
-invariant-loop-at g l =
-    Reading g.T.Value.means g.T.Value.named l.first (fields_left l.initial.fields) l.initial.into l.into l.count
-    (fields_left l.fields)
-
-abbrev pub decreases-loop-at : goal.decreases-loop-at
-decreases-loop-at g l = length l.initial.into - l.count
+abbrev pub invariant-loop-place : goal.invariant-loop-place
+invariant-loop-place g l =
+    (l.count ≡ l.place-index) × Reading (at_most g.T.Value.means g.T.Value.named) (fields_left l.initial.fields) l.initial.into l.into l.place-index (fields_left l.fields)

@@ -1,11 +1,9 @@
-use Rattle.std.proofs.Common.{◌≡◌, ◌+◌, ◌≤◌, eqb, length, take}
-use Rattle.std.specs.List.{suffix_len}
+use Rattle.std.proofs.Common.{◌≡◌, length}
+use Rattle.plan.specs.Text.{unpadded}
 use Rattle.plan.proofs.text.without_padding.Given as goal
 
-abbrev pub invariant-loop-end : goal.invariant-loop-end
-invariant-loop-end l =
-    (l.end ≤ length l.text) ×
-    (l.end + suffix_len (λ b. eqb b 59) l.text ≡ length l.text + suffix_len (λ b. eqb b 59) (take l.end l.text))
+abbrev pub invariant-loop-row : goal.invariant-loop-row
+invariant-loop-row l = unpadded l.row ≡ unpadded l.text
 
-abbrev pub decreases-loop-end : goal.decreases-loop-end
-decreases-loop-end l = l.end
+abbrev pub decreases-loop-row : goal.decreases-loop-row
+decreases-loop-row l = length l.row

@@ -11,5 +11,5 @@ pub returns : goal.returns
 returns c =
     let read = c.in_ok-count.ensures in
     front_filled {B = Calendar} (λ xs k. record { ranges = xs; count = k }) 64 no_range c.fill.new.into c.in_ok-count.count
-    (at_most range_of Range 64 2 (fields_left c.args.fields.now))
+    (at_most range_of Range 64 (fields_left c.args.fields.now))
     read.0 c.fill.auto.into read.2 read.1

@@ -11,5 +11,5 @@ pub returns : goal.returns
 returns c =
     let read = c.in_ok-count.ensures in
     front_filled {B = Lanes} (λ xs k. record { readings = xs; count = k }) 16 no_reading c.fill.new.into c.in_ok-count.count
-    (at_most lane_of Lane 16 c.args.first (fields_left c.args.fields.now))
+    (at_most lane_of Lane 16 (fields_left c.args.fields.now))
     read.0 c.fill.auto.into read.2 read.1
