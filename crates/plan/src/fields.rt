@@ -43,6 +43,7 @@ impl<'a> Fields<'a> {
     }
 
     // The next field, if one is left.
+    #[tactic(auto, using(crate::proofs::Cuts::uncut), unfolding(crate::specs::Fields::fields_left))]
     pub(crate) fn next(&mut self) -> Option<&'a [u8]>
         ensures value { option_map (λ x. x.now) result ≡ first_of (fields_left self.old).fields }
         ensures after { fields_left self.new ≡ past (fields_left self.old) }

@@ -5,12 +5,16 @@ ghost use Rattle.plan.specs.Rows.{is_blank, sheet_of, head_row_of, row_as, row_o
 
 use crate::fields::Fields;
 use crate::kind::{Kind, next_kind};
-use crate::row::lists::read_calendar;
+use crate::row::lists::read_up_to;
 use crate::row::{Row, RowFault};
 use crate::second::{read_second, read_seconds};
 use crate::several::fill_up;
 use crate::strategy_row::read_strategy;
 use crate::value::{expect_end, next_value};
+use sheet::calendar::MinuteRange;
+
+// What stands for a range that a row does not tell of.
+const NO_RANGE: MinuteRange = MinuteRange { from: 0, to: 0 };
 
 // Does the row say nothing? A row that begins with `#` is a comment.
 fn is_blank(text: &[u8]) -> bool
@@ -46,10 +50,10 @@ fn read_as(kind: Kind, fields: &mut Fields<'_>) -> Result<Row, RowFault>
 {
     match kind {
         Kind::Sheet => read_sheet(fields),
-        Kind::Strategy => Ok(Row::Strategy(read_strategy(fields)?)),
+        Kind::Strategy => read_strategy(fields).map(Row::Strategy),
         Kind::Head => read_head(fields),
-        Kind::Calendar => Ok(Row::Calendar(read_calendar(fields)?)),
-        Kind::Second => Ok(Row::Second(read_second(fields)?)),
+        Kind::Calendar => read_up_to(fields, NO_RANGE).map(Row::Calendar),
+        Kind::Second => read_second(fields).map(Row::Second),
         Kind::Seconds => read_seconds(fields),
         Kind::Line { buffer } => Ok(Row::Line { buffer }),
         Kind::Reset => {
@@ -60,6 +64,7 @@ fn read_as(kind: Kind, fields: &mut Fields<'_>) -> Result<Row, RowFault>
 }
 
 // What a row says, or the first field of it that is wrong. The text is the row's without its ends, as `row_text` gives it.
+#[tactic(auto, unfolding(crate::specs::Rows::row_of))]
 pub fn read_row(text: &[u8]) -> Result<Row, RowFault>
     ensures { result ≡ row_of text.now }
 {

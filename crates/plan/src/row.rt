@@ -63,25 +63,25 @@ pub struct SecondRow {
 }
 
 // The word that the lamps give back: the one for the lamps that are lit, or any other.
+// It is no Option of a number, since `ok` is a word that is given back, and not the absence of one.
 #[derive(Clone, Copy, Debug, PartialEq, Eq)]
 pub enum Word {
     Lit,
     Given(u32),
 }
 
-// Up to 16 lane readings.
+// Up to so many values of one kind. They stand in an array, since a row is kept in fixed memory.
 #[derive(Clone, Copy, Debug, PartialEq, Eq)]
-pub struct Lanes {
-    readings: [LaneReading; 16],
+pub struct UpTo<T, const MOST: usize> {
+    items: [T; MOST],
     count: usize,
 }
 
+// Up to 16 lane readings.
+pub type Lanes = UpTo<LaneReading, 16>;
+
 // Up to 64 ranges of minutes.
-#[derive(Clone, Copy, Debug, PartialEq, Eq)]
-pub struct Calendar {
-    ranges: [MinuteRange; 64],
-    count: usize,
-}
+pub type Calendar = UpTo<MinuteRange, 64>;
 
 // The first thing that is wrong with a row. Fields are counted from 1, and the kind of the row is field 1.
 #[derive(Clone, Copy, Debug, PartialEq, Eq)]

@@ -4,9 +4,17 @@ ghost use Rattle.plan.specs.Fields.{fields_left};
 ghost use Rattle.plan.specs.Seconds.{second_of, seconds_of};
 
 use crate::fields::Fields;
-use crate::row::lists::read_lanes;
+use crate::row::lists::read_up_to;
 use crate::row::{Row, RowFault, SecondRow};
 use crate::value::next_value;
+use loops::reading::LaneReading;
+
+// What stands for a lane that a row does not tell of.
+const NO_READING: LaneReading = LaneReading {
+    seen: 0,
+    sound: 0,
+    busy_ms: 0,
+};
 
 // The second that the fields left tell of.
 pub(crate) fn read_second(fields: &mut Fields<'_>) -> Result<SecondRow, RowFault>
@@ -16,7 +24,7 @@ pub(crate) fn read_second(fields: &mut Fields<'_>) -> Result<SecondRow, RowFault
     let queue_ms = next_value(fields)?;
     let word = next_value(fields)?;
     let minute = next_value(fields)?;
-    let lanes = read_lanes(fields)?;
+    let lanes = read_up_to(fields, NO_READING)?;
     Ok(SecondRow {
         presence,
         queue_ms,

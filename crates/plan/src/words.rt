@@ -69,6 +69,7 @@ impl Value for BaseWord {
 }
 
 // The word for a strategy or for a limiter over one.
+// It is no Option of a base, since `limiter` is a word of its own, and not the absence of one.
 #[derive(Clone, Copy)]
 pub(crate) enum StrategyWord {
     Limiter,

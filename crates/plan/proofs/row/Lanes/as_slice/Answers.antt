@@ -1,6 +1,0 @@
-use Rattle.std.proofs.Common.{rules}
-use native.Mathlib.Nat.{sub-zero}
-use Rattle.plan.proofs.row.Lanes.as_slice.Goals as goal
-
-pub returns : goal.returns
-returns c = search (rules, sub-zero)
