@@ -7,6 +7,5 @@ pub mod Several
 pub mod Lists
 pub mod Seconds
 pub mod Strategies
-pub mod Kinds
 pub mod Rows
 pub mod Faults

@@ -4,7 +4,6 @@
 pub mod fault;
 pub mod fields;
 mod figures;
-mod kind;
 pub mod number;
 pub mod read;
 pub mod row;

@@ -1,12 +1,12 @@
 // The reader of a plan's rows.
 ghost use Rattle.std.specs.Prelude.{◌≡◌};
-ghost use Rattle.plan.specs.Fields.{fields_left};
-ghost use Rattle.plan.specs.Rows.{is_blank, sheet_of, head_row_of, row_as, row_of};
+ghost use Rattle.plan.specs.Fields.{fields_of, fields_left};
+ghost use Rattle.plan.specs.Rows.{is_blank, sheet_of, head_row_of, reset_of, buffer_in, line_in, row_named, row_of};
 
 use crate::fields::Fields;
-use crate::kind::{Kind, next_kind};
+use crate::figures::next_number;
 use crate::row::lists::read_up_to;
-use crate::row::{Row, RowFault};
+use crate::row::{Row, RowFault, Wanted};
 use crate::second::{read_second, read_seconds};
 use crate::several::fill_up;
 use crate::strategy_row::read_strategy;
@@ -44,22 +44,55 @@ fn read_head(fields: &mut Fields<'_>) -> Result<Row, RowFault>
     Ok(Row::Head(kind))
 }
 
-// The row of this kind, from the fields behind its first.
-fn read_as(kind: Kind, fields: &mut Fields<'_>) -> Result<Row, RowFault>
-    ensures { result ≡ row_as kind (fields_left fields.old) }
+// No further field.
+fn read_reset(fields: &Fields<'_>) -> Result<Row, RowFault>
+    ensures { result ≡ reset_of (fields_left fields.now) }
 {
-    match kind {
-        Kind::Sheet => read_sheet(fields),
-        Kind::Strategy => read_strategy(fields).map(Row::Strategy),
-        Kind::Head => read_head(fields),
-        Kind::Calendar => read_up_to(fields, NO_RANGE).map(Row::Calendar),
-        Kind::Second => read_second(fields).map(Row::Second),
-        Kind::Seconds => read_seconds(fields),
-        Kind::Line { buffer } => Ok(Row::Line { buffer }),
-        Kind::Reset => {
-            expect_end(fields)?;
-            Ok(Row::Reset)
-        }
+    expect_end(fields)?;
+    Ok(Row::Reset)
+}
+
+// A line, from what stands behind the `/`: an answer buffer of at most 1,000 bytes, and of 80 where nothing is said.
+fn read_buffer(parts: &mut Fields<'_>) -> Result<Row, RowFault>
+    ensures { result ≡ buffer_in (fields_left parts.old).fields }
+{
+    if parts.is_empty() {
+        return Ok(Row::Line { buffer: 80 });
+    }
+    match next_number(parts) {
+        Some(buffer) if buffer <= 1000 && parts.is_empty() => Ok(Row::Line { buffer }),
+        _ => Err(RowFault::Bad {
+            field: 1,
+            wanted: Wanted::Buffer,
+        }),
+    }
+}
+
+// The row of a command line, if this is its name: `line`, or `line/` and the size of its answer buffer.
+fn read_line(name: &[u8]) -> Result<Option<Row>, RowFault>
+    ensures { result ≡ line_in (fields_of 47 name.now) }
+{
+    let mut parts = Fields::of(name, b'/');
+    match parts.next() {
+        Some(b"line") => read_buffer(&mut parts).map(Some),
+        _ => Ok(None),
+    }
+}
+
+// The row of this name, from the fields behind the name.
+#[tactic(auto, unfolding(crate::specs::Rows::row_named))]
+fn read_named(name: &[u8], fields: &mut Fields<'_>) -> Result<Row, RowFault>
+    ensures { result ≡ row_named name.now (fields_left fields.old) }
+{
+    match name {
+        b"second" => read_second(fields).map(Row::Second),
+        b"seconds" => read_seconds(fields),
+        b"sheet" => read_sheet(fields),
+        b"strategy" => read_strategy(fields).map(Row::Strategy),
+        b"head" => read_head(fields),
+        b"calendar" => read_up_to(fields, NO_RANGE).map(Row::Calendar),
+        b"reset" => read_reset(fields),
+        _ => Err(RowFault::UnknownKind),
     }
 }
 
@@ -72,6 +105,9 @@ pub fn read_row(text: &[u8]) -> Result<Row, RowFault>
         return Ok(Row::Blank);
     }
     let mut fields = Fields::of(text, b';');
-    let kind = next_kind(&mut fields)?;
-    read_as(kind, &mut fields)
+    let name = fields.next().ok_or(RowFault::UnknownKind)?;
+    match read_line(name)? {
+        Some(line) => Ok(line),
+        None => read_named(name, &mut fields),
+    }
 }
