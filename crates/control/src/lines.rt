@@ -1,6 +1,6 @@
 // What orders make of a station, and why they are refused.
 ghost use Rattle.std.specs.Prelude.{◌≡◌};
-ghost use Rattle.control.specs.declared.answer.Refused.TheVariants.{Order as OrderRefused};
+ghost use Rattle.control.specs.declared.answer.Refused.TheVariants.{Order as OrderRefused, Buffer};
 ghost use Rattle.control.specs.Lines.{telling_of, in_mode, refused_by, unless_refused, commanded, status_letter};
 
 use crate::answer::Refused;
@@ -8,12 +8,21 @@ use crate::stage::Stage;
 use crate::state::{Command, Mode};
 use orders::fault::{OrderFault, Refusal};
 use orders::order::Order;
+use reply::text::NoRoom;
 
 impl From<OrderFault> for Refused {
     ghost from_gives = { λ e r. r ≡ OrderRefused e };
 
     fn from(fault: OrderFault) -> Refused {
         Refused::Order(fault)
+    }
+}
+
+impl From<NoRoom> for Refused {
+    ghost from_gives = { λ short r. r ≡ Buffer short.needed };
+
+    fn from(short: NoRoom) -> Refused {
+        Refused::Buffer(short.needed)
     }
 }
 

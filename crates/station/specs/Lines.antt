@@ -2,9 +2,8 @@
 use Rattle.std.specs.Prelude.{ℕ, List, length, take, Ok, Err, Result}
 use Rattle.orders.specs.declared.order.Order.{Order}
 use Rattle.orders.specs.declared.fault.OrderFault.{OrderFault}
-use Rattle.reply.specs.declared.text.NoRoom.{NoRoom}
 use Rattle.control.specs.declared.answer.Refused.{Refused}
-use Rattle.control.specs.declared.answer.Refused.TheVariants.{Order as NoOrder, Buffer}
+use Rattle.control.specs.declared.answer.Refused.TheVariants.{Order as NoOrder}
 
 -- the number of bytes of a reply
 abbrev pub bytes_of : Result (List ℕ) Refused → Result ℕ Refused
@@ -15,11 +14,6 @@ bytes_of (Err e) = Err e
 abbrev pub replied : Result ℕ Refused → List ℕ → Result (List ℕ) Refused
 replied (Ok n) buffer = Ok (take n buffer)
 replied (Err e) buffer = Err e
-
--- a reply that the buffer does not hold is refused with the bytes needed
-abbrev pub too_long : Result ℕ NoRoom → Result ℕ Refused
-too_long (Ok n) = Ok n
-too_long (Err short) = Err (Buffer short.needed)
 
 -- the order that is to be obeyed, with the bytes of its answer
 abbrev pub taken_with : Result Order OrderFault → Result (List ℕ) Refused → Result (Order × ℕ) Refused

@@ -3,25 +3,14 @@ ghost use Rattle.std.specs.Prelude.{◌≡◌, ◌≤◌, length, IfOk};
 ghost use Rattle.control.specs.Lines.{reply_of, fitted, answered_by, refused_by, answer_to, buffer_after};
 ghost use Rattle.control.specs.Phases.{is_tripped};
 ghost use Rattle.orders.specs.Orders.{order_of};
-ghost use Rattle.station.specs.Lines.{bytes_of, too_long, taken_with};
+ghost use Rattle.station.specs.Lines.{bytes_of, taken_with};
 
 use crate::station::Station;
 use control::answer::Refused;
 use control::lines::check_order;
 use orders::order::Order;
 use orders::reader::read_order;
-use reply::text::{NoRoom, cycles_reply, status_reply};
-
-// A reply that the buffer does not hold is refused with the bytes needed.
-fn unless_long(written: Result<usize, NoRoom>) -> Result<usize, Refused>
-    ensures result { result ≡ too_long written }
-    ensures few { IfOk written (λ n. n ≤ 34) → IfOk result (λ n. n ≤ 34) }
-{
-    match written {
-        Ok(bytes) => Ok(bytes),
-        Err(NoRoom { needed }) => Err(Refused::Buffer(needed)),
-    }
-}
+use reply::text::{cycles_reply, status_reply};
 
 impl<S, H> Station<S, H> {
     // Writes the reply to an order: nothing, but for the status readings.
@@ -31,10 +20,10 @@ impl<S, H> Station<S, H> {
         ensures few { IfOk result (λ n. n ≤ 34) }
     {
         match order {
-            Order::Status => unless_long(status_reply(self.stage.letter(), buffer)),
+            Order::Status => Ok(status_reply(self.stage.letter(), buffer)?),
             Order::Cycles => {
                 let window_flash = self.sheet.figures().window_flash;
-                unless_long(cycles_reply(self.stage.running_cycle(), window_flash, buffer))
+                Ok(cycles_reply(self.stage.running_cycle(), window_flash, buffer)?)
             }
             Order::Central | Order::Local | Order::Cycle(_) | Order::Off => Ok(0),
         }
