@@ -44,10 +44,6 @@ abbrev pub is_empty : {A : Type 0} → List A → Bool
 is_empty [] = true
 is_empty (x ∷ xs) = false
 
--- the number after n: the count stops at the largest number that a fault can tell
-abbrev pub counted : ℕ → ℕ
-counted n = min (n + 1) 4294967295
-
--- the fields behind the first of these
+-- the fields behind the first of these; their number stops at the largest that a fault can tell
 abbrev pub past : Numbered → Numbered
-past fs = record { number = counted fs.number; fields = behind fs.fields }
+past fs = record { number = min (fs.number + 1) 4294967295; fields = behind fs.fields }
