@@ -4,7 +4,7 @@ ghost use Rattle.log_rows.specs.Whole.{line_taken_text, line_refused_text, reset
 
 use crate::fields::Refused;
 use orders::fault::Refusal;
-use std::fmt;
+use std::{fmt, str};
 
 // A command line was taken: the bytes of its reply. Where they are not UTF-8, writing the row gives an error.
 #[derive(Clone, Copy)]
@@ -26,10 +26,8 @@ impl fmt::Display for LineTaken<'_> {
     ghost output = { λ x. Some (line_taken_text x.0.now) };
 
     fn fmt<W: fmt::Write>(&self, f: &mut fmt::Formatter<W>) -> fmt::Result {
-        match std::str::from_utf8(self.0) {
-            Ok(reply) => write!(f, "line;taken;{reply}"),
-            Err(_) => Err(fmt::Error),
-        }
+        let reply = str::from_utf8(self.0).map_err(|_| fmt::Error)?;
+        write!(f, "line;taken;{reply}")
     }
 }
 

@@ -22,7 +22,7 @@ impl<N: fmt::Display> fmt::Display for ShownOr<N> {
     fn fmt<W: fmt::Write>(&self, f: &mut fmt::Formatter<W>) -> fmt::Result {
         match &self.held {
             Some(held) => write!(f, "{held}"),
-            None => write!(f, "{}", self.word),
+            None => f.write_str(self.word),
         }
     }
 }
