@@ -11,6 +11,7 @@ use crate::value::{Value, expect_end, next_value};
 pub(crate) fn fill<T: Value>(fields: &mut Fields<'_>, into: &mut [T]) -> Result<usize, RowFault>
     ensures { Filled T.Value.means T.Value.named (fields_left fields.old) into.old into.new result }
 {
+    // Counted beside the loop, since both of its ends need the count, and `enumerate` gives it at one alone.
     let mut count = 0;
     for place in into.iter_mut() {
         if fields.is_empty() {
