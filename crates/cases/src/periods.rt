@@ -1,7 +1,7 @@
 // Periods of lane readings, with flow and occupancy worked out by hand.
 use loops::lane::rules::in_range;
 use loops::reading::LaneReading;
-use loops::tally::{PeriodTally, Tallied};
+use loops::tally::PeriodTally;
 use sheet::draft::{Draft, RefusedDraft};
 use sheet::sheet::Sheet;
 use std::process::Abort;
@@ -72,8 +72,8 @@ fn lane(seen: u32, sound: u32, busy_ms: u32) -> LaneReading {
 }
 
 // A close with this measure.
-fn measured(flow: u32, occupancy_permille: u32) -> Tallied {
-    Tallied::Closed(Some(Measure {
+fn measured(flow: u32, occupancy_permille: u32) -> Option<Option<Measure>> {
+    Some(Some(Measure {
         flow,
         occupancy_permille,
     }))
@@ -82,7 +82,7 @@ fn measured(flow: u32, occupancy_permille: u32) -> Tallied {
 // Tells the same readings for so many seconds, after none of which the period may close.
 fn run(rt: &impl Abort, tally: &mut PeriodTally, seconds: u32, readings: &[LaneReading]) {
     for _ in 0..seconds {
-        assert_eq!(rt; tally.second(readings), Tallied::Running);
+        assert_eq!(rt; tally.second(readings), None);
     }
 }
 
@@ -94,11 +94,16 @@ struct Case {
     overcount: u32,
     first: LaneReading,
     others: LaneReading,
-    answer: Tallied,
+    answer: Option<Option<Measure>>,
 }
 
 // What a second answered is what the case says.
-fn closed_with(rt: &impl Abort, answered: Tallied, answer: Tallied, what: &str) {
+fn closed_with(
+    rt: &impl Abort,
+    answered: Option<Option<Measure>>,
+    answer: Option<Option<Measure>>,
+    what: &str,
+) {
     assert_eq!(rt; answered, answer, "{what}");
 }
 
@@ -116,7 +121,7 @@ fn closes_as(rt: &impl Abort, case: Case) -> Result<(), Fail> {
 }
 
 // A case in which nine seconds have one vehicle and 100 busy milliseconds each: 9 seen, 9 sound, 900 busy.
-fn nine_and(first: LaneReading, what: &'static str, answer: Tallied) -> Case {
+fn nine_and(first: LaneReading, what: &'static str, answer: Option<Option<Measure>>) -> Case {
     Case {
         what,
         availability: 80,
@@ -128,7 +133,7 @@ fn nine_and(first: LaneReading, what: &'static str, answer: Tallied) -> Case {
 }
 
 // A close with no measure.
-const NONE: Tallied = Tallied::Closed(None);
+const NONE: Option<Option<Measure>> = Some(None);
 
 // At each limit, and just past it.
 #[test]

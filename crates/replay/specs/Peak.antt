@@ -2,8 +2,6 @@
 use Rattle.std.specs.Prelude.{◌≡◌, ℕ, ◌%◌, List, [], ◌∷◌, ◌++◌, Some, None, Option}
 use Rattle.loops.specs.Rules.{Second}
 use Rattle.loops.specs.Held.{Holds, After}
-use Rattle.loops.specs.declared.tally.Tallied.{Tallied}
-use Rattle.loops.specs.declared.tally.Tallied.TheVariants.{Running, Closed}
 use Rattle.records.specs.Kept.{count_after}
 use Rattle.log_rows.specs.declared.row.PeriodRow.{PeriodRow}
 use Rattle.strategy.specs.declared.measure.Measure.{Measure}
@@ -25,13 +23,13 @@ Closes meaning before minute m after r =
     (r ≡ Some (period_row meaning before.strategy (count_after before.periods) (minute % 10080) m)) ×
     (after.strategy ≡ meaning.next before.strategy (minute % 10080) m) × (after.periods ≡ count_after before.periods)
 
-abbrev pub Did : {S : Type 0} → StrategyMeaning S → Peak S → (minute : ℕ) → Peak S → Option PeriodRow → Tallied → Type 0
-Did meaning before minute after r Running = GoesOn before after r
-Did meaning before minute after r (Closed m) = Closes meaning before minute m after r
+abbrev pub Did : {S : Type 0} → StrategyMeaning S → Peak S → (minute : ℕ) → Peak S → Option PeriodRow → Option (Option Measure) → Type 0
+Did meaning before minute after r None = GoesOn before after r
+Did meaning before minute after r (Some m) = Closes meaning before minute m after r
 
 -- one second: it is counted, the loops take its readings, and the period goes on or closes
 pub record Seen {S : Type 0} (meaning : StrategyMeaning S) (before : Peak S) (minute : ℕ) (readings : Second) (after : Peak S) (r : Option PeriodRow) : Type 0 where
-  pub tallied : Tallied
+  pub tallied : Option (Option Measure)
   pub law : (ss : List Second) → Holds before.tally ss → After after.tally (ss ++ readings ∷ []) tallied
   pub figures : after.tally.figures ≡ before.tally.figures
   pub seconds : after.seconds ≡ count_after before.seconds

@@ -7,7 +7,7 @@ ghost use Rattle.replay.specs.Peak.{Seen, period_row};
 
 use log_rows::row::PeriodRow;
 use loops::reading::LaneReading;
-use loops::tally::{PeriodTally, Tallied};
+use loops::tally::PeriodTally;
 use records::putting::count_after;
 use sheet::sheet::Sheet;
 use strategy::measure::Measure;
@@ -63,13 +63,14 @@ impl<S: Strategy> Peak<S> {
         ensures { Seen S.Strategy self.old minute readings.now self.new result }
     {
         self.seconds = count_after(self.seconds);
-        match self.tally.second(readings) {
-            Tallied::Running => None,
-            Tallied::Closed(measure) => {
-                self.periods = count_after(self.periods);
-                Some(close(&mut self.strategy, self.periods, minute % 10_080, measure))
-            }
-        }
+        let measure = self.tally.second(readings)?;
+        self.periods = count_after(self.periods);
+        Some(close(
+            &mut self.strategy,
+            self.periods,
+            minute % 10_080,
+            measure,
+        ))
     }
 
     // How many seconds there were.

@@ -1,19 +1,17 @@
 -- The station's loops: their figures are the sheet's, and a second closes a period where the rule says.
-use Rattle.std.proofs.Common.{◌≡◌, ℕ, ◌*◌, ◌<◌, ◌≤◌, Bool, true, false, cond, leb, List, [], ◌∷◌, ◌++◌, length, Some, sym, refl, ap, ◌∙◌, subst, arith, leb-false, leb-true}
+use Rattle.std.proofs.Common.{◌≡◌, ℕ, ◌*◌, ◌<◌, ◌≤◌, Bool, true, false, cond, leb, List, [], ◌∷◌, ◌++◌, length, Some, None, Option, sym, refl, ap, ◌∙◌, subst, arith, leb-false, leb-true}
 use mathlib.Core.HLevel.{is_prop→PathP}
 use native.Mathlib.Bridge.{le_prop}
 use Rattle.sheet.specs.declared.sheet.Sheet.{Sheet}
 use Rattle.sheet.specs.Limits.{Within}
 use Rattle.loops.specs.declared.figures.LoopFigures.{LoopFigures}
 use Rattle.loops.specs.declared.tally.PeriodTally.{PeriodTally}
-use Rattle.loops.specs.declared.tally.Tallied.{Tallied}
-use Rattle.loops.specs.declared.tally.Tallied.TheVariants.{Running, Closed}
+use Rattle.strategy.specs.declared.measure.Measure.{Measure}
 use Rattle.loops.specs.Held.{Holds, After}
 use Rattle.loops.specs.Rules.{Second, period_measure}
 use Rattle.loops.specs.Source.{TakenFrom}
 use Rattle.control.specs.Figures.{loop_figures}
 use Rattle.control.specs.Seconds.{is_whole, period_seconds, closed_by, close_of, readings_after}
-use Rattle.station.specs.Parts.{closed_of}
 
 within_prop : (k : ℕ) {f : ℕ} (p q : Within k f) → p ≡ q
 within_prop k p q = λ i. (le_prop p.0 q.0 i, le_prop p.1 q.1 i)
@@ -43,14 +41,14 @@ is_short n k false e h = e
 is_short n k true e h = absurd (let l = leb-true n k e in omega arith)
 
 -- what the loops are after a second, and what they closed with, in the words of the rules
-pub record Tallying (s : Sheet) (after : PeriodTally) (ss : List Second) (rs : Second) (r : Tallied) : Type 0 where
+pub record Tallying (s : Sheet) (after : PeriodTally) (ss : List Second) (rs : Second) (r : Option (Option Measure)) : Type 0 where
   pub holds : Holds after (readings_after s ss rs)
-  pub closed : closed_of r ≡ close_of s ss rs
+  pub closed : r ≡ close_of s ss rs
 
 pub tallying :
-    (s : Sheet) (after : PeriodTally) (ss : List Second) (rs : Second) (r : Tallied) → after.figures ≡ loop_figures s →
+    (s : Sheet) (after : PeriodTally) (ss : List Second) (rs : Second) (r : Option (Option Measure)) → after.figures ≡ loop_figures s →
     After after (ss ++ rs ∷ []) r → Tallying s after ss rs r
-tallying s after ss rs Running e a =
+tallying s after ss rs None e a =
     let long = ss ++ rs ∷ [] in
     let short : length long < period_seconds s = subst (λ (f : LoopFigures). length long < f.period_intervals * f.interval_seconds) e a.short in
     let no : is_whole s long ≡ false = is_short (period_seconds s) (length long) (is_whole s long) refl short in
@@ -58,7 +56,7 @@ tallying s after ss rs Running e a =
       holds = subst (Holds after) (sym (ap (λ b. cond b [] long) no)) a.holds;
       closed = sym (ap (λ b. closed_by b s long) no);
     }
-tallying s after ss rs (Closed m) e a =
+tallying s after ss rs (Some m) e a =
     let whole = ss ++ rs ∷ [] in
     let long : length whole ≡ period_seconds s = a.long ∙ ap (λ f. f.period_intervals * f.interval_seconds) e in
     let yes : is_whole s whole ≡ true = is_whole_lem (period_seconds s) (length whole) (is_whole s whole) refl (omega arith) in

@@ -1,8 +1,6 @@
 -- The parts of a second's records.
 use Rattle.std.specs.Prelude.{◌≡◌, ℕ, List, [], ◌∷◌, ◌++◌, Some, None, Option}
 use Rattle.strategy.specs.declared.measure.Measure.{Measure}
-use Rattle.loops.specs.declared.tally.Tallied.{Tallied}
-use Rattle.loops.specs.declared.tally.Tallied.TheVariants.{Running, Closed}
 use Rattle.records.specs.declared.alarm.AlarmRecord.{AlarmRecord}
 use Rattle.records.specs.declared.period.PeriodRecord.{PeriodRecord}
 use Rattle.records.specs.declared.phase.Phase.{Phase}
@@ -11,10 +9,6 @@ use Rattle.records.specs.Kept.{count_after, last_of}
 use Rattle.records.specs.Rings.{kept_by, room_by}
 use Rattle.control.specs.declared.answer.Trip.{Trip}
 use Rattle.control.specs.declared.state.Counts.{Counts}
-
-abbrev pub closed_of : Tallied → Option (Option Measure)
-closed_of Running = None
-closed_of (Closed m) = Some m
 
 -- the period record: its number, minute, measure or none, the strategy's cycle, and the openings since the last record
 abbrev pub period_record_of : (minute cycle : ℕ) → Counts → Option Measure → PeriodRecord

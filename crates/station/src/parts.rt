@@ -7,7 +7,7 @@ ghost use Rattle.control.specs.declared.stage.Stage.TheVariants.{Tripped};
 ghost use Rattle.control.specs.Seconds.{length_fixed, told_at};
 ghost use Rattle.control.specs.Steps.{stepped};
 ghost use Rattle.control.specs.Trips.{trip_of};
-ghost use Rattle.station.specs.Parts.{closed_of, period_record_of, alarm_record_of, PutInto};
+ghost use Rattle.station.specs.Parts.{period_record_of, alarm_record_of, PutInto};
 
 use control::answer::Trip;
 use control::stage::{Conditions, Stage};
@@ -15,7 +15,6 @@ use control::state::Counts;
 use control::trip::trip_of;
 use lamps::colour::Colour;
 use lamps::head::LampHead;
-use loops::tally::Tallied;
 use records::alarm::AlarmRecord;
 use records::period::PeriodRecord;
 use records::phase::Phase;
@@ -30,16 +29,6 @@ pub(crate) fn trip_now(tripped: bool, lit: u32, colour: Colour) -> Option<Trip>
     ensures { result ≡ (if tripped then None else trip_of lit colour) }
 {
     if tripped { None } else { trip_of(lit, colour) }
-}
-
-// What the loops answered, as a close or none.
-pub(crate) fn closed_with(tallied: Tallied) -> Option<Option<Measure>>
-    ensures { result ≡ closed_of tallied }
-{
-    match tallied {
-        Tallied::Running => None,
-        Tallied::Closed(measure) => Some(measure),
-    }
 }
 
 // Tells the strategy what a period closed with, if one did, and gives the period's record.

@@ -7,8 +7,7 @@ ghost use Rattle.station.specs.Lines.{replied};
 ghost use Rattle.station.specs.Station.{model, Stands, Lived, GoesOn, SecondDone, LineDone, ResetDone, Looked, view_of, given_by};
 
 use crate::parts::{
-    alarm_of, closed_with, drive, length_fixed, put_some, stage_after, tell_close, trip_now,
-    wanted_kept,
+    alarm_of, drive, length_fixed, put_some, stage_after, tell_close, trip_now, wanted_kept,
 };
 use crate::station::Station;
 use crate::station::field::{Field, View};
@@ -67,7 +66,7 @@ impl<S: Strategy, H: LampHead> Station<S, H> {
         let tripped = before.is_tripped();
         let trip = trip_now(tripped, self.head.read(field.word), self.head.ordered());
         let trips = trip.is_some();
-        let closed = closed_with(self.tally.second(field.lanes));
+        let closed = self.tally.second(field.lanes);
         let period = tell_close(&mut self.strategy, closed, minute, self.counts);
         let queue = self.queue.after(&self.sheet, field.queue_ms);
         let inside = in_calendar(calendar, minute);

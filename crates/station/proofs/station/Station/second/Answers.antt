@@ -30,7 +30,7 @@ returns g c =
       sheet = f;
       strategy = c.tell_close-period.new.strategy;
       head = c.drive.new.head;
-      tally = c.second.new.self;
+      tally = c.second-closed.new.self;
       command = record { mode = self.command.mode; wanted = c.wanted_kept-self.result; centre_cycle = self.command.centre_cycle };
       queue = record { over = c.after-queue.result.over; under = c.under_count.result };
       counts = c.after-self.result;
@@ -39,9 +39,9 @@ returns g c =
     let answered : Answer = record { colour = c.ordered-colour.result; phase = c.phase-2.result; sign = not c.is_dark.result; trip = c.trip_now-trip.result } in
     let done : (ss : List Second) → Stands self ss → SecondDone st hd self ss i exit answered c.args.periods.now c.put_some.new.ring c.args.alarms.now c.put_some-2.new.ring = λ ss stands.
     let m = model hd self ss in
-    let figures : c.second.new.self.figures ≡ loop_figures f = c.second.ensures.same ∙ stands.figures in
-    let loops = tallying f c.second.new.self ss lanes c.second.result figures (c.second.ensures.law ss stands.holds) in
-    let closed : c.closed_with-closed.result ≡ close_now st f m i = c.closed_with-closed.ensures ∙ loops.closed in
+    let figures : c.second-closed.new.self.figures ≡ loop_figures f = c.second-closed.ensures.same ∙ stands.figures in
+    let loops = tallying f c.second-closed.new.self ss lanes c.second-closed.result figures (c.second-closed.ensures.law ss stands.holds) in
+    let closed : c.second-closed.result ≡ close_now st f m i = loops.closed in
     let tripped : c.is_tripped-tripped.result ≡ is_tripped m.stage = c.is_tripped-tripped.ensures in
     let trip : c.trip_now-trip.result ≡ trip_now st f m i = c.trip_now-trip.ensures ∙ (λ j. cond (tripped j) None (trip_of (c.read.ensures.value j) (c.ordered.ensures.value j))) in
     let trips : c.is_some-trips.result ≡ is_some (trip_now st f m i) = c.is_some-trips.ensures ∙ ap is_some trip in
