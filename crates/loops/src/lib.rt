@@ -2,6 +2,7 @@
 #![tactic(auto)]
 
 pub mod figures;
+mod interval;
 pub mod lane;
 pub mod reading;
 pub mod tally;
