@@ -1,31 +1,51 @@
 -- What is known of a draft's figures: the walk to the lowest outside its limits, and the facts of an accepted sheet.
-use Rattle.std.proofs.Common.{◌≡◌, ℕ, zero, suc, ◌+◌, ◌<◌, ◌≤◌, Bool, true, false, cond, ◌||◌, ltb, List, [], ◌∷◌, length, get_or, take, drop, is_some, Some, None, Option, refl, ap, ◌∙◌, add-suc, arith, rules, ltb-false}
+use Rattle.std.proofs.Common.{◌≡◌, ℕ, ◌+◌, ◌<◌, ◌≤◌, Bool, true, false, cond, ◌||◌, ltb, List, [], ◌∷◌, position, is_some, Some, None, Option, Ok, Err, refl, ap, ◌∙◌, arith, rules, ltb-false}
+use Rattle.std.specs.List.{zip, position_from}
+use Rattle.std.specs.Option.{option_map}
 use Rattle.std.proofs.lemmas.Bool.Decides.{nat_tests}
-use Rattle.std.proofs.lemmas.List.{drop_more, drop_all, take_all}
+use Rattle.std.proofs.lemmas.Iterator.Adapters.{position_from-zero}
 use Rattle.sheet.specs.declared.draft.Draft.{Draft}
 use Rattle.sheet.specs.declared.draft.Cause.{Cause}
+use Rattle.sheet.specs.declared.draft.Cause.TheVariants.{OutsideLimits}
 use Rattle.sheet.specs.Limits.{limits, lowest_outside, is_outside}
 use Rattle.sheet.specs.Draft.{figures_of}
-use Rattle.sheet.specs.Causes.{cause_of, cause_from, cause_of_pairs}
+use Rattle.sheet.specs.Causes.{cause_of, cause_of_limits, cause_from, cause_of_pairs, checked}
 
--- the figure at i is the first to be looked at, and is outside
-pub outside_here : (i : ℕ) (ls : List (ℕ × ℕ)) (fs : List ℕ) → i < length ls → i < length fs → true ≡ is_outside (get_or ls i (0, 0)) (get_or fs i 0) → lowest_outside (i + 1) (drop i ls) (drop i fs) ≡ Some (i + 1)
-unfolding lowest_outside
-outside_here i ls fs h k e = rw (drop_more ls i (0, 0) h, drop_more fs i 0 k, ← e)
+-- a figure beside its limits lies outside them
+abbrev pub pair_outside : (ℕ × ℕ) × ℕ → Bool
+pair_outside p = is_outside p.0 p.1
 
--- it is within its limits
-pub outside_later : (i : ℕ) (ls : List (ℕ × ℕ)) (fs : List ℕ) → i < length ls → i < length fs → false ≡ is_outside (get_or ls i (0, 0)) (get_or fs i 0) → lowest_outside (i + 1) (drop i ls) (drop i fs) ≡ lowest_outside (i + 1 + 1) (drop (i + 1) ls) (drop (i + 1) fs)
+-- the place of the first pair outside, counted from k, gives its number, counted from k + 1
+numbered : (k : ℕ) (ls : List (ℕ × ℕ)) (fs : List ℕ) → option_map (λ i. i + 1) (position_from pair_outside k (zip ls fs)) ≡ lowest_outside (k + 1) ls fs
 unfolding lowest_outside
-outside_later i ls fs h k e = rw (drop_more ls i (0, 0) h, drop_more fs i 0 k, ← e)
-
--- no figure is left
-pub outside_none : (i : ℕ) (ls : List (ℕ × ℕ)) (fs : List ℕ) → length ls ≤ i → lowest_outside (i + 1) (drop i ls) (drop i fs) ≡ None
-unfolding lowest_outside
-outside_none i ls fs h = rw (drop_all i ls h)
+numbered k [] fs = refl
+numbered k (l ∷ ls) [] = refl
+numbered k (l ∷ ls) (f ∷ fs) = elim (is_outside l f) as (λ b. option_map (λ i. i + 1) (cond b (Some k) (position_from pair_outside (k + 1) (zip ls fs))) ≡ cond b (Some (k + 1)) (lowest_outside (k + 1 + 1) ls fs)) [ true ↦ refl | false ↦ numbered (k + 1) ls fs ]
 
 -- the table of the code and the figures in their order are those of the rule
-pub table_looked_at : (ls : List (ℕ × ℕ)) (fs : List ℕ) (d : Draft) (o : Option ℕ) → ls ≡ limits → fs ≡ figures_of d → o ≡ lowest_outside 1 ls fs → o ≡ lowest_outside 1 limits (figures_of d)
-table_looked_at ls fs d o el ef e = e ∙ ap (λ l. lowest_outside 1 l fs) el ∙ ap (lowest_outside 1 limits) ef
+pub lowest_placed : (ls : List (ℕ × ℕ)) (fs : List ℕ) (d : Draft) (o : Option ℕ) → ls ≡ limits → fs ≡ figures_of d → o ≡ position pair_outside (zip ls fs) → option_map (λ i. i + 1) o ≡ lowest_outside 1 limits (figures_of d)
+lowest_placed ls fs d o el ef e =
+    ap (option_map (λ i. i + 1)) (e ∙ position_from-zero pair_outside (zip ls fs)) ∙ numbered 0 ls fs ∙ ap (λ l. lowest_outside 1 l fs) el ∙ ap (lowest_outside 1 limits) ef
+
+-- a check answers whether there is a cause
+pub no_cause : (o : Option Cause) → Ok tt ≡ checked o → is_some o ≡ false
+no_cause None e = refl
+no_cause (Some c) e = absurd (let z : ◌≡◌ {A = ℕ} 0 1 = cc in omega arith)
+
+-- a check of the limits that refuses is the answer, and otherwise the pairs give it
+pub limits_refuse : (d : Draft) (c : Cause) → Err c ≡ checked (cause_of_limits d) → Err c ≡ checked (cause_of d)
+unfolding cause_of
+limits_refuse d c e = from (lowest_outside 1 limits (figures_of d)) e where
+  from : (o : Option ℕ) → Err c ≡ checked (option_map OutsideLimits o) → Err c ≡ checked (cause_from o (cause_of_pairs d))
+  from (Some k) h = h
+  from None h = absurd (let z : ◌≡◌ {A = ℕ} 0 1 = cc in omega arith)
+
+pub limits_pass : (d : Draft) → Ok tt ≡ checked (cause_of_limits d) → checked (cause_of_pairs d) ≡ checked (cause_of d)
+unfolding cause_of
+limits_pass d e = from (lowest_outside 1 limits (figures_of d)) e where
+  from : (o : Option ℕ) → Ok tt ≡ checked (option_map OutsideLimits o) → checked (cause_of_pairs d) ≡ checked (cause_from o (cause_of_pairs d))
+  from (Some k) h = absurd (let z : ◌≡◌ {A = ℕ} 0 1 = cc in omega arith)
+  from None h = refl
 
 -- each figure lies within its limits, and Q holds
 abbrev WithinThen : List (ℕ × ℕ) → List ℕ → Type 0 → Type 0
@@ -66,19 +86,3 @@ facts d e =
     let both = from_figures (lowest_outside 1 limits (figures_of d)) (cause_of_pairs d) e in
     let p = ordered d both.1 in
     within_then 1 limits (figures_of d) (Ordered d) (p.0, (p.1, (p.2, tt))) both.0
-
--- so many elements read one by one, from place i on
-abbrev firsts : ℕ → ℕ → List ℕ → List ℕ
-firsts zero i xs = []
-firsts (suc n) i xs = get_or xs i 0 ∷ firsts n (i + 1) xs
-
-firsts_take : (n i : ℕ) (xs : List ℕ) → i + n ≤ length xs → firsts n i xs ≡ take n (drop i xs)
-firsts_take zero i xs h = refl
-firsts_take (suc n) i xs h =
-    let k : i < length xs = omega (arith, add-suc i n) in
-    let m : i + 1 + n ≤ length xs = omega (arith, add-suc i n) in
-    rw (drop_more xs i 0 k) (ap (λ ys. get_or xs i 0 ∷ ys) (firsts_take n (i + 1) xs m))
-
--- a list is its elements, read one by one
-pub all_read : (n : ℕ) (xs : List ℕ) → length xs ≡ n → firsts n 0 xs ≡ xs
-all_read n xs e = firsts_take n 0 xs (omega arith) ∙ take_all n xs (omega arith)

@@ -127,7 +127,7 @@ pub enum Cause {
     FirstFlowOutside,
 }
 
-// A refusal as it is told: its number and the figure that it names.
+// A refusal as it is told, by the number that the rules give it: its number and the figure that it names.
 #[derive(Clone, Copy, Debug, PartialEq, Eq)]
 pub struct Refusal {
     pub number: u32,

@@ -1,13 +1,15 @@
 // Accepting a draft.
-ghost use Rattle.std.specs.Prelude.{◌≡◌, ◌+◌, ◌<◌, length};
-ghost use Rattle.sheet.specs.Limits.{limits, is_outside, lowest_outside};
-ghost use Rattle.sheet.specs.Causes.{cause_of, cause_of_pairs};
+ghost use Rattle.std.specs.Prelude.{◌≡◌, ◌<◌, length, position, IfSome};
+ghost use Rattle.std.specs.List.{zip};
+ghost use Rattle.sheet.specs.Limits.{is_outside};
+ghost use Rattle.sheet.specs.Causes.{cause_of, cause_of_limits, cause_of_pairs, checked};
 ghost use Rattle.sheet.specs.Judged.{Judged};
 
 use crate::draft::{Cause, Draft, RefusedDraft};
 use crate::sheet::Sheet;
 
 // Each figure's lowest and highest value, in the order of their numbers: the one table of the code.
+// Pairs and no ranges: a RangeInclusive can't be copied, and holds beside its ends whether it has run out.
 const LIMITS: [(u32, u32); 22] = [
     (1, 9_999),
     (30, 300),
@@ -33,62 +35,53 @@ const LIMITS: [(u32, u32); 22] = [
     (30, 900),
 ];
 
-// The table of limits.
-fn limits_table() -> [(u32, u32); 22]
-    ensures { result ≡ limits }
-{
-    LIMITS
-}
-
-// The number of the figure at a place of the list.
-fn number_at(place: usize) -> u32
-    requires { place < 1000 }
-    ensures { result ≡ place + 1 }
-{
-    place as u32 + 1
-}
-
 // Whether a figure is below or above its limits.
 fn is_outside(limits: (u32, u32), figure: u32) -> bool
     ensures { result ≡ is_outside limits figure }
 {
-    figure < limits.0 || limits.1 < figure
+    !(limits.0..=limits.1).contains(&figure)
 }
 
-// The number of the lowest figure outside its limits.
-fn lowest_outside(figures: &[u32], limits: &[(u32, u32)]) -> Option<u32>
-    requires { (length figures.now ≡ length limits.now) × (length limits.now < 1000) }
-    ensures { result ≡ lowest_outside 1 limits.now figures.now }
+// The place of the first figure outside its limits.
+fn place_outside(limits: &[(u32, u32)], figures: &[u32]) -> Option<usize>
+    ensures value { result ≡ position (λ p. is_outside p.0 p.1) (zip limits.now figures.now) }
+    ensures place { IfSome result (λ i. i < length limits.now) }
 {
-    for i in 0..limits.len() {
-        if is_outside(limits[i], figures[i]) {
-            return Some(number_at(i));
-        }
-    }
-    None
+    limits
+        .iter()
+        .zip(figures)
+        .position(|(limits, figure)| is_outside(*limits, *figure))
 }
 
-// Which of the causes that compare figures with each other is against the draft.
-fn cause_of_pairs(draft: &Draft) -> Option<Cause>
-    ensures { result ≡ cause_of_pairs draft.now }
+// Refuses the lowest figure outside its limits. A place is below 22, so the cast loses nothing, and try_from would only add an error.
+fn check_limits(draft: &Draft) -> Result<(), Cause>
+    ensures { result ≡ checked (cause_of_limits draft.now) }
+{
+    match place_outside(&LIMITS, &draft.figures()) {
+        Some(place) => Err(Cause::OutsideLimits(place as u32 + 1)),
+        None => Ok(()),
+    }
+}
+
+// Refuses figures that are at odds with each other.
+fn check_pairs(draft: &Draft) -> Result<(), Cause>
+    ensures { result ≡ checked (cause_of_pairs draft.now) }
 {
     if draft.queue_cleared >= draft.queue_full {
-        Some(Cause::ClearedNotBelowFull)
+        Err(Cause::ClearedNotBelowFull)
     } else if is_outside((draft.lowest_flow, draft.highest_flow), draft.first_flow) {
-        Some(Cause::FirstFlowOutside)
+        Err(Cause::FirstFlowOutside)
     } else {
-        None
+        Ok(())
     }
 }
 
-// Why the draft is to be refused, if it is.
-fn cause_of(draft: &Draft) -> Option<Cause>
-    ensures { result ≡ cause_of draft.now }
+// Refuses a draft that a cause is against.
+fn check(draft: &Draft) -> Result<(), Cause>
+    ensures { result ≡ checked (cause_of draft.now) }
 {
-    match lowest_outside(&draft.figures(), &limits_table()) {
-        Some(figure) => Some(Cause::OutsideLimits(figure)),
-        None => cause_of_pairs(draft),
-    }
+    check_limits(draft)?;
+    check_pairs(draft)
 }
 
 impl Draft {
@@ -96,9 +89,9 @@ impl Draft {
     pub fn accept(self) -> Result<Sheet, RefusedDraft>
         ensures { Judged self result }
     {
-        match cause_of(&self) {
-            Some(cause) => Err(RefusedDraft { cause, draft: self }),
-            None => Ok(Sheet { draft: self }),
+        match check(&self) {
+            Ok(()) => Ok(Sheet { draft: self }),
+            Err(cause) => Err(RefusedDraft { cause, draft: self }),
         }
     }
 }

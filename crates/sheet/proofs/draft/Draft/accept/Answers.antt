@@ -1,10 +1,9 @@
-use Rattle.std.proofs.Common.{is_some, sym, ap}
-use Rattle.sheet.proofs.Known.{facts}
+use Rattle.sheet.proofs.Known.{facts, no_cause}
 use Rattle.sheet.proofs.draft.Draft.accept.Goals as goal
 
 pub invariant_of-result : goal.invariant_of-result
 invariant_of-result c =
-    let h = facts c.args.self (ap is_some (sym c.in-None.ensures)) in
+    let h = facts c.args.self (no_cause _ c.in-Ok.ensures) in
     record {
       station_within = h.0;
       opening_flash_within = h.1.0;
