@@ -1,5 +1,5 @@
 // Making ALINEA, and ALINEA as a strategy.
-ghost use Rattle.std.specs.Prelude.{◌≡◌, ◌≤◌, pos, ◌-ℤ◌};
+ghost use Rattle.std.specs.Prelude.{◌≡◌, pos, ◌-ℤ◌};
 ghost use Rattle.strategy.specs.Alinea.{moved_flow, measured_flow};
 ghost use Rattle.strategy.specs.Meanings.{fresh_alinea, alinea_meaning};
 
@@ -23,34 +23,26 @@ impl Alinea {
             critical_occupancy: figures.critical_occupancy,
         }
     }
-}
 
-// How far an occupancy lies below the critical one.
-fn below_critical(critical: u32, occupancy: u32) -> i64
-    ensures { result ≡ pos critical -ℤ pos occupancy }
-{
-    i64::from(critical) - i64::from(occupancy)
-}
+    // How far an occupancy lies below the critical one.
+    fn below_critical(&self, occupancy: u32) -> i64
+        ensures { result ≡ pos self.now.critical_occupancy -ℤ pos occupancy }
+    {
+        i64::from(self.critical_occupancy) - i64::from(occupancy)
+    }
 
-// The flow in tenths, moved by gain × (critical occupancy − occupancy) and not yet drawn into its limits.
-fn moved_flow(flow_tenths: u32, gain: u32, critical: u32, occupancy: u32) -> i64
-    requires { gain ≤ 200 }
-    ensures { result ≡ moved_flow gain critical flow_tenths occupancy }
-{
-    i64::from(flow_tenths) + i64::from(gain) * below_critical(critical, occupancy)
-}
+    // The flow in tenths, moved by gain × (critical occupancy − occupancy) and not yet drawn into its limits.
+    fn moved_flow(&self, occupancy: u32) -> i64
+        ensures { result ≡ moved_flow self.now.gain self.now.critical_occupancy self.now.flow_tenths occupancy }
+    {
+        i64::from(self.flow_tenths) + i64::from(self.gain) * self.below_critical(occupancy)
+    }
 
-impl Alinea {
     // The flow in tenths after a period with this occupancy.
     fn flow_after(&self, occupancy: u32) -> u32
         ensures { result ≡ measured_flow self.now.gain self.now.critical_occupancy self.now.lowest_flow self.now.highest_flow self.now.flow_tenths occupancy }
     {
-        let moved = moved_flow(
-            self.flow_tenths,
-            self.gain,
-            self.critical_occupancy,
-            occupancy,
-        );
+        let moved = self.moved_flow(occupancy);
         draw_into(10 * self.lowest_flow, 10 * self.highest_flow, moved)
     }
 }

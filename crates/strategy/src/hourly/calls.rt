@@ -4,7 +4,6 @@ ghost use Rattle.strategy.specs.Drawn.{drawn_cycle};
 ghost use Rattle.strategy.specs.Hourly.{hour_of};
 ghost use Rattle.strategy.specs.Meanings.{hourly_meaning};
 
-use crate::drawn::draw_into;
 use crate::hourly::HourlyPlan;
 use crate::measure::Measure;
 use crate::strategy::Strategy;
@@ -20,17 +19,14 @@ fn hour_of(minute: u32) -> u32
 fn draw_cycle(cycle: u32) -> u32
     ensures { result ≡ drawn_cycle cycle }
 {
-    draw_into(4, 120, i64::from(cycle))
+    cycle.clamp(4, 120)
 }
 
 // Each of the cycles drawn into 4 to 120.
-fn draw_cycles(mut cycles: [u32; 24]) -> [u32; 24]
+fn draw_cycles(cycles: [u32; 24]) -> [u32; 24]
     ensures { result ≡ map drawn_cycle cycles }
 {
-    for cycle in cycles.iter_mut() {
-        *cycle = draw_cycle(*cycle);
-    }
-    cycles
+    cycles.map(draw_cycle)
 }
 
 impl HourlyPlan {

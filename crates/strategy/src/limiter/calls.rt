@@ -1,10 +1,9 @@
 // Making a step limiter over any strategy, and the limiter as a strategy.
-ghost use Rattle.std.specs.Prelude.{◌≡◌, ◌≤◌, pos};
+ghost use Rattle.std.specs.Prelude.{◌≡◌, pos};
 ghost use Rattle.strategy.specs.Drawn.{drawn};
 ghost use Rattle.strategy.specs.Limiter.{own_after};
 ghost use Rattle.strategy.specs.Meanings.{limited_meaning};
 
-use crate::drawn::draw_into;
 use crate::limiter::Limiter;
 use crate::measure::Measure;
 use crate::strategy::Strategy;
@@ -20,7 +19,7 @@ impl<S: Strategy> Limiter<S> {
         Limiter {
             below,
             own,
-            step: draw_into(1, 30, i64::from(step)),
+            step: step.clamp(1, 30),
         }
     }
 }
@@ -34,12 +33,13 @@ fn cycle_after<S: Strategy>(strategy: &mut S, minute: u32, measure: Option<Measu
     strategy.ask()
 }
 
-// The own cycle after a close: the cycle below, drawn into the own one ± step.
-fn own_after(own: u32, step: u32, below: u32) -> u32
-    requires { (own ≤ 120) × (step ≤ 30) }
-    ensures { result ≡ own_after own step below }
-{
-    draw_into(own.saturating_sub(step), own + step, i64::from(below))
+impl<S> Limiter<S> {
+    // The own cycle after a close: the cycle below, drawn into the own one ± step.
+    fn own_after(&self, below: u32) -> u32
+        ensures { result ≡ own_after self.now.own self.now.step below }
+    {
+        below.clamp(self.own.saturating_sub(self.step), self.own + self.step)
+    }
 }
 
 impl<S: Strategy> Strategy for Limiter<S> {
@@ -51,7 +51,7 @@ impl<S: Strategy> Strategy for Limiter<S> {
 
     fn tell(&mut self, minute: u32, measure: Option<Measure>) {
         let asked = cycle_after(&mut self.below, minute, measure);
-        self.own = own_after(self.own, self.step, asked);
+        self.own = self.own_after(asked);
     }
 
     fn ask(&self) -> u32 {

@@ -1,11 +1,13 @@
-use Rattle.std.proofs.Common.{rules}
-use Rattle.strategy.proofs.Steps.{cycle_drawn, cycles_drawn}
+use Rattle.std.proofs.Common.{◌≡◌, map, length, get_or, sym, ◌∙◌, arith, rules}
+use Rattle.std.proofs.lemmas.List.{same_lists, length-map, get_or-map}
+use Rattle.strategy.specs.Drawn.{drawn_cycle}
 use Rattle.strategy.proofs.hourly.calls.draw_cycles.Goals as goal
-
-pub loop-cycle-preserved : goal.loop-cycle-preserved
-loop-cycle-preserved c =
-    cycle_drawn c.args.cycles c.loop-cycle.cycle-items c.loop-cycle.cycle-index c.draw_cycle.result (search rules) (search rules) (search rules) c.loop-cycle.invariant c.draw_cycle.ensures
 
 pub returns : goal.returns
 returns c =
-    cycles_drawn c.args.cycles c.loop-cycle.cycle-items c.loop-cycle.cycle-index (search rules) c.loop-cycle-test.false c.loop-cycle.invariant
+    let m = c.map.ensures.items in
+    let long : length c.args.cycles ≡ 24 = search rules in
+    same_lists c.map.result (map drawn_cycle c.args.cycles) (m.long ∙ sym (length-map c.args.cycles drawn_cycle ∙ long)) (λ k d l.
+    let h = m.at k 0 d (omega (arith, m.long)) in
+    let drawn : get_or c.map.result k d ≡ drawn_cycle (get_or c.args.cycles k 0) = search rules in
+    drawn ∙ sym (get_or-map drawn_cycle c.args.cycles k 0 d (omega (arith, long, m.long))))
