@@ -65,12 +65,7 @@ impl<S: Strategy> Peak<S> {
         self.seconds = count_after(self.seconds);
         let measure = self.tally.second(readings)?;
         self.periods = count_after(self.periods);
-        Some(close(
-            &mut self.strategy,
-            self.periods,
-            minute % 10_080,
-            measure,
-        ))
+        Some(close(&mut self.strategy, self.periods, minute % 10_080, measure))
     }
 
     // How many seconds there were.

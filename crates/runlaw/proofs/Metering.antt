@@ -1,21 +1,20 @@
 -- One second of metering keeps the invariant and the succession.
-use Rattle.std.proofs.Common.{◌≡◌, ℕ, ◌+◌, ◌-◌, ◌<◌, ◌≤◌, min, max, Bool, true, false, cond, not, ◌&&◌, ◌||◌, ltb, ◌⊎◌, List, [], ◌∷◌, sym, refl, ap, ◌∙◌, subst, inl, inr, arith, ltb-false, ltb-true}
+use Rattle.std.proofs.Common.{◌≡◌, ℕ, ◌+◌, ◌-◌, ◌<◌, ◌≤◌, min, max, Bool, true, false, cond, not, ◌&&◌, ◌||◌, ltb, ◌⊎◌, sym, refl, ap, ◌∙◌, subst, inl, inr, arith, ltb-false, ltb-true}
 use Rattle.sheet.specs.declared.sheet.Sheet.{Sheet}
 use Rattle.lamps.specs.declared.colour.Colour.{Colour}
-use Rattle.lamps.specs.declared.colour.Colour.TheVariants.{Dark, Red, FixedAmber, FlashingAmber}
+use Rattle.lamps.specs.declared.colour.Colour.TheVariants.{Red, FixedAmber, FlashingAmber}
 use Rattle.control.specs.declared.stage.Conditions.{Conditions}
 use Rattle.control.specs.declared.stage.Light.{Light}
 use Rattle.control.specs.declared.stage.Light.TheVariants as light
 use Rattle.control.specs.declared.stage.Meter.{Meter}
 use Rattle.control.specs.declared.stage.Stage.{Stage}
 use Rattle.control.specs.declared.stage.Stage.TheVariants as stage
-use Rattle.control.specs.Figures.{T1, T2, T3, JC, JF, RM}
+use Rattle.control.specs.Figures.{T2, JC, JF, RM}
 use Rattle.control.specs.Phases.{phase_of, colour_of, colour_of_light}
-use Rattle.control.specs.Metering.{light_step, flash_step, amber_step, red_step, red_stays, opening, lit, clocked_by, clocked, runs, started, metered}
-use Rattle.control.specs.Steps.{stepped}
+use Rattle.control.specs.Metering.{light_step, flash_step, amber_step, red_step, red_stays, opening, lit, clocked_by, runs, metered}
 use Rattle.runlaw.specs.Log.{in_metering}
 use Rattle.runlaw.specs.RunLaw.{MayFollow}
-use Rattle.runlaw.proofs.Seen.{Seen, grown, grown_by, put, put_all, at, at_all, Good, Leads, Tied, MeterTied, LightTied, Bound}
+use Rattle.runlaw.proofs.Seen.{Seen, grown, grown_by, put_all, at_all, Leads, MeterTied, LightTied, Bound}
 
 never : false ≡ true → ⊥
 never e = let z : ◌≡◌ {A = ℕ} 0 1 = cc in omega arith

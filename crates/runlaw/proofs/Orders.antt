@@ -5,7 +5,7 @@ use Rattle.orders.specs.declared.order.Order.TheVariants.{Central, Local, Cycle,
 use Rattle.orders.specs.declared.fault.OrderFault.{OrderFault}
 use Rattle.orders.specs.Tokens.{Part, tokens_of}
 use Rattle.orders.specs.Lines.{Form, Meaning, orders, sets_cycle, Verdict, lines, spelt, found, number, verdict}
-use Rattle.orders.specs.Orders.{Check, after, length_check, byte_check, line_order, order_of}
+use Rattle.orders.specs.Orders.{Check, after, length_check, byte_check, order_of}
 
 -- an order of a cycle has it in range
 abbrev InRange : Verdict → Type 0

@@ -1,13 +1,11 @@
 -- The induction over histories: what the observer works out and what the station is stay tied, act by act.
-use Rattle.std.proofs.Common.{◌≡◌, ℕ, ◌+◌, ◌-◌, ◌*◌, ◌%◌, ◌<◌, ◌≤◌, min, max, Bool, true, false, cond, not, ◌&&◌, ◌||◌, ltb, leb, List, [], ◌∷◌, ◌++◌, length, is_some, is_ok, Some, None, Ok, Err, Option, Result, sym, refl, ap, ◌∙◌, subst, subst₂, mul_comm, arith, ltb-false, ltb-true, leb-false, leb-true}
+use Rattle.std.proofs.Common.{◌≡◌, ℕ, ◌%◌, ◌<◌, ◌≤◌, Bool, true, false, cond, not, ◌&&◌, ◌||◌, ltb, leb, List, [], ◌∷◌, ◌++◌, length, is_some, is_ok, Some, None, Ok, Err, Option, Result, sym, refl, ap, ◌∙◌, subst, subst₂, mul_comm, arith, ltb-false, ltb-true, leb-false, leb-true}
 use mathlib.Core.Path.{subst₃}
 use Rattle.sheet.specs.declared.sheet.Sheet.{Sheet}
-use Rattle.strategy.specs.declared.measure.Measure.{Measure}
 use Rattle.strategy.specs.declared.strategy.Strategy.{Ghosts as StrategyMeaning}
 use Rattle.loops.specs.Rules as loops
 use Rattle.lamps.specs.declared.colour.Colour.{Colour}
-use Rattle.lamps.specs.declared.colour.Colour.TheVariants.{Dark, Red, FixedAmber, FlashingAmber}
-use Rattle.records.specs.declared.phase.Phase.{Phase}
+use Rattle.lamps.specs.declared.colour.Colour.TheVariants.{Dark}
 use Rattle.orders.specs.declared.order.Order.{Order}
 use Rattle.orders.specs.declared.order.Order.TheVariants as order
 use Rattle.orders.specs.declared.fault.OrderFault.{OrderFault}
@@ -24,16 +22,16 @@ use Rattle.control.specs.declared.stage.Meter.{Meter}
 use Rattle.control.specs.declared.stage.Stage.{Stage}
 use Rattle.control.specs.declared.stage.Stage.TheVariants as stage
 use Rattle.control.specs.declared.state.Command.{Command}
-use Rattle.control.specs.Figures.{T1, T2, T3, JC, JF, RM, loop_figures}
+use Rattle.control.specs.Figures.{T1, T2, T3, RM, loop_figures}
 use Rattle.control.specs.Fresh.{fresh}
-use Rattle.control.specs.Lines.{line_answer, after_line, obeyed, commanded, with_command, reset_answer, reset_taken, after_reset}
-use Rattle.control.specs.Metering.{light_step, red_step, clocked, started}
+use Rattle.control.specs.Lines.{line_answer, after_line, obeyed, reset_taken}
+use Rattle.control.specs.Metering.{light_step, clocked, started}
 use Rattle.control.specs.Model.{Model, Given}
 use Rattle.control.specs.Phases.{phase_of, colour_of, running_cycle, is_tripped}
 use Rattle.control.specs.Seconds as seconds
 use Rattle.control.specs.Seconds.{after, after_by, answer, answer_by, conditions, head_by, stage_by, strategy_now, close_now, trip_now, told_at, closed_by, is_whole, readings_after}
 use Rattle.control.specs.Steps.{stepped}
-use Rattle.runlaw.specs.History.{History, Act, Second, Line, Reset, WentThrough}
+use Rattle.runlaw.specs.History.{History, Second, Line, Reset, WentThrough}
 use Rattle.runlaw.specs.Log.{in_metering, Log, Close, row, cycle_now, reset_since, cycle_by_line, centres_cycle, length_by, state_after, whole_period, until_whole, since_close, closing, closes, length_fixed, log, colour_shown, phase_shown, cycle_shown}
 use Rattle.runlaw.specs.RunLaw.{Succession, Darkness, trip_stands, RunLaw}
 use Rattle.runlaw.proofs.Seen.{Seen, seen, Tied, Good, Leads}

@@ -15,8 +15,7 @@ use Rattle.orders.specs.declared.order.Order.TheVariants as order
 use Rattle.orders.specs.declared.fault.OrderFault.{OrderFault}
 use Rattle.orders.specs.Orders.{order_of}
 use Rattle.control.specs.Figures.{loop_figures}
-use Rattle.control.specs.Model.{Given}
-use Rattle.runlaw.specs.History.{History, Act, Second, Line, Reset}
+use Rattle.runlaw.specs.History.{History, Second, Line, Reset}
 
 pub record Row : Type 0 where
   -- the colour that the head means after the second; phase and trip of the answer; presence as given
