@@ -72,6 +72,7 @@ impl<S: Strategy> Peak<S> {
     pub fn seconds(&self) -> u32
         ensures { result ≡ self.now.seconds }
     {
-        self.seconds
+        let Peak { seconds, .. } = self;
+        *seconds
     }
 }
