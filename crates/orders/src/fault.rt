@@ -31,7 +31,8 @@ impl From<ReaderFault> for OrderFault {
     }
 }
 
-// A refusal as it is told: its number, and the length or place that goes with it, if any does.
+// A refusal as it is told: its number, and the length or place that goes with it, if any does. A draft's refusal is another
+// type: it always names a figure, and neither crate stands on the other.
 #[derive(Clone, Copy, Debug, PartialEq, Eq)]
 pub struct Refusal {
     pub number: u32,

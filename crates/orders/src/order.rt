@@ -37,7 +37,7 @@ pub(crate) fn mode_order(text: &[u8]) -> Option<Order>
 }
 
 // Is it a cycle that the centre may set?
-fn is_cycle(seconds: u64) -> bool
+fn is_cycle(seconds: u32) -> bool
     ensures { result ≡ (nat_le 4 seconds && nat_le seconds 120) }
 {
     (4..=120).contains(&seconds)
@@ -47,9 +47,8 @@ fn is_cycle(seconds: u64) -> bool
 pub(crate) fn cycle_order(seconds: u64, place: usize) -> Result<Order, OrderFault>
     ensures { result ≡ cycle_order seconds place }
 {
-    if is_cycle(seconds) {
-        Ok(Order::Cycle(seconds as u32))
-    } else {
-        Err(OrderFault::Cycle(place))
+    match u32::try_from(seconds) {
+        Ok(seconds) if is_cycle(seconds) => Ok(Order::Cycle(seconds)),
+        _ => Err(OrderFault::Cycle(place)),
     }
 }
