@@ -1,5 +1,5 @@
 // The current head: its words have the current of each lamp.
-ghost use Rattle.std.specs.Prelude.{◌≡◌, leb};
+ghost use Rattle.std.specs.Prelude.{◌≡◌, ◌*◌, ◌%◌, leb};
 ghost use Rattle.lamps.specs.Words.{current_of, lit_part, current_set, current_word};
 ghost use Rattle.lamps.specs.Meanings.{current_code};
 
@@ -8,7 +8,7 @@ use crate::coded::CodedHead;
 use crate::colour::Lamp;
 
 // The least current of a lamp that is lit.
-const LIT_FROM: u32 = 20;
+const LIT_FROM: u8 = 20;
 
 // Words that have the current of red in bits 0-7, of fixed amber in 8-15 and of flashing amber in 16-23.
 #[derive(Clone, Copy, Debug)]
@@ -18,18 +18,19 @@ pub struct CurrentCode;
 pub type CurrentHead = CodedHead<CurrentCode>;
 
 // The current of a lamp in a word.
-fn current_of(word: u32, lamp: Lamp) -> u32
+fn current_of(word: u32, lamp: Lamp) -> u8
     ensures { result ≡ current_of word lamp }
 {
+    let [red, fixed_amber, flashing_amber, _] = word.to_le_bytes();
     match lamp {
-        Lamp::Red => word % 256,
-        Lamp::FixedAmber => word / 256 % 256,
-        Lamp::FlashingAmber => word / 65_536 % 256,
+        Lamp::Red => red,
+        Lamp::FixedAmber => fixed_amber,
+        Lamp::FlashingAmber => flashing_amber,
     }
 }
 
 // Whether a lamp with this current is lit.
-fn is_lit(current: u32) -> bool
+fn is_lit(current: u8) -> bool
     ensures { result ≡ leb 20 current }
 {
     current >= LIT_FROM
@@ -55,11 +56,23 @@ fn lit_set(word: u32) -> u32
         + lit_part(word, Lamp::FlashingAmber)
 }
 
+// The least current if the bit is set, else none.
+fn current_for(bit: u32) -> u8
+    ensures { result ≡ 20 * (bit % 2) }
+{
+    if bit % 2 == 1 { LIT_FROM } else { 0 }
+}
+
 // A word with the least current for each lamp of the set.
 fn word_of(lit: u32) -> u32
     ensures { result ≡ current_word lit }
 {
-    LIT_FROM * (lit % 2) + 256 * (LIT_FROM * (lit / 2 % 2)) + 65_536 * (LIT_FROM * (lit / 4 % 2))
+    u32::from_le_bytes([
+        current_for(lit),
+        current_for(lit / 2),
+        current_for(lit / 4),
+        0,
+    ])
 }
 
 impl LampCode for CurrentCode {
