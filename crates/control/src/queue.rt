@@ -17,7 +17,8 @@ fn counted_to(most: u32, holds: bool, count: u32) -> u32
     }
 }
 
-// Is the reading of the queue loop that of a full queue?
+// Is the reading of the queue loop that of a full queue? Sheet and reading stay two values, as the one holds for the life of
+// a station and the other for one second.
 fn is_full(sheet: &Sheet, reading: u32) -> bool
     ensures { result ≡ (nat_le reading 1000 && nat_lt (TO1 sheet.now) reading) }
 {

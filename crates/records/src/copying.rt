@@ -37,6 +37,7 @@ fn copy_both<T: Copy>(first: &[T], second: &[T], list: &mut [T]) -> usize
 fn oldest_place(room: usize, next: usize, put: u32) -> usize
     ensures { result ≡ (if nat_lt put room then room else place_of room next put) }
 {
+    // By a cast, since std has no From of a u32 for a usize.
     if (put as usize) < room {
         room
     } else {

@@ -3,7 +3,7 @@
 ghost use Rattle.std.specs.Prelude.{◌≡◌, ◌+◌, min, [], ◌∷◌, ◌++◌, slice_set};
 ghost use Rattle.records.specs.Kept.{count_after, room_of, place_of, following, next_after, places_after, kept, last_of};
 
-// The greatest count.
+// The greatest count. A u32 becomes a usize by a cast here and below: std has no From for it.
 const MOST_COUNTED: usize = u32::MAX as usize;
 
 // One more, but no count passes the greatest.

@@ -20,7 +20,8 @@ use station::station::Station;
 use station::station::field::Field;
 use strategy::strategy::Strategy;
 
-// What stands in a place to which no period record was put.
+// What stands in a place to which no period record was put. No Default gives it, nor the alarm record below: a lamp and a
+// code have none that means nothing.
 const NO_PERIOD: PeriodRecord = PeriodRecord {
     number: 0,
     minute: 0,

@@ -13,7 +13,8 @@ pub trait Strategy {
 
     ghost within: { (s : Self) → (4 ≤ cycle s) × (cycle s ≤ 120) };
 
-    // Tells it the minute of a close and the period's measure, or none: it moves to the next state.
+    // Tells it the minute of a close and the period's measure, or none: it moves to the next state. The two stay apart, since
+    // the rules give every strategy a minute and an Option of a measure.
     fn tell(&mut self, minute: u32, measure: Option<Measure>)
         ensures { self.new ≡ next self.old minute measure };
 

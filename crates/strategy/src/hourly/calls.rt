@@ -54,6 +54,7 @@ impl Strategy for HourlyPlan {
     }
 
     fn ask(&self) -> u32 {
+        // By a cast, since std has no From of a u32 for a usize.
         self.cycles[self.hour as usize]
     }
 }
