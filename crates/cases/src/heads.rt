@@ -132,7 +132,9 @@ fn words_of_the_current_head(rt: HostRuntime) {
     for (red, red_lit) in CURRENTS {
         for (fixed, fixed_lit) in CURRENTS {
             for (flashing, flashing_lit) in CURRENTS {
-                let lit = u32::from(red_lit) + 2 * u32::from(fixed_lit) + 4 * u32::from(flashing_lit);
+                let lit = u32::from(red_lit)
+                    + 2 * u32::from(fixed_lit)
+                    + 4 * u32::from(flashing_lit);
                 for highest in [0, 255] {
                     let word = u32::from_le_bytes([red, fixed, flashing, highest]);
                     assert_eq!(rt; head.read(word), lit);
