@@ -95,7 +95,9 @@ fn newest_are_kept<T: Numbered>(
 ) {
     assert_eq!(rt; ring.count(), put);
     assert_eq!(rt; ring.len(), many as usize);
-    list.fill(T::numbered(0));
+    for x in list.iter_mut() {
+        *x = T::numbered(0);
+    }
     assert_eq!(rt; ring.copy_to(list, 0), many as usize);
     newest_come_last(rt, list, many, put);
 }

@@ -52,7 +52,7 @@ impl Stage {
         }
     }
 
-    // The length of the running reference cycle, 0 outside metering.
+    // The length of the running reference cycle, 0 outside metering, as the reading of the cycles tells it.
     pub fn running_cycle(self) -> u32
         ensures { result ≡ running_cycle self }
     {

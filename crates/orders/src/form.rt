@@ -55,7 +55,7 @@ fn read_mode(tokens: &mut Tokens) -> Result<Order, OrderFault>
     ensures { Reads result (lines_past "PA, AM=PIL") tokens.old }
 {
     let digit = tokens.token_behind(b", AF=PF/")?;
-    // A match, since both arms are ends of the line, as in the readers above.
+    // A match and no `?`, so that each reader has one shape: what goes on, and what no line has here.
     match mode_order(digit.text()) {
         Some(order) => tokens.finish(Ok(order)),
         None => Err(digit.stray()),
@@ -67,7 +67,7 @@ fn read_cycle(tokens: &mut Tokens) -> Result<Order, OrderFault>
     ensures { Reads result (lines_past "PA, AM=F.1") tokens.old }
 {
     let digits = tokens.token_behind(b", CY=")?;
-    // A match, since both arms are ends of the line, as in the readers above.
+    // A match and no `?`, so that each reader has one shape: what goes on, and what no line has here.
     match read_decimal(digits.text()) {
         Some(seconds) => tokens.finish(cycle_order(seconds, digits.place())),
         None => Err(digits.stray()),

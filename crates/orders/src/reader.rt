@@ -37,6 +37,7 @@ fn first_unknown(line: &[u8]) -> Option<usize>
 fn check_bytes(line: &[u8]) -> Result<(), ReaderFault>
     ensures { result ≡ byte_check line.now }
 {
+    // A match, since `ok_or` goes the other way: here a place found is the fault.
     match first_unknown(line) {
         Some(place) => Err(ReaderFault::Byte(place)),
         None => Ok(()),

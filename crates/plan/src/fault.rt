@@ -1,33 +1,26 @@
 // What is wrong with a row, in words.
-ghost use Rattle.std.specs.Prelude.{◌≡◌, Some};
+ghost use Rattle.std.specs.Prelude.{Some};
 ghost use Rattle.plan.specs.Faults.{wanted_text, fault_text};
 
 use crate::row::{RowFault, Wanted};
 use std::fmt;
-
-// What should have stood there.
-fn wanted_text(wanted: Wanted) -> &'static str
-    ensures { result.now ≡ wanted_text wanted }
-{
-    match wanted {
-        Wanted::Number => "a number from 0 to 4294967295",
-        Wanted::Presence => "0 or 1",
-        Wanted::Word => "ok or a number from 0 to 4294967295",
-        Wanted::Lane => "a lane of three numbers, SEEN|SOUND|BUSY,",
-        Wanted::Range => "a range of two numbers, FROM..TO,",
-        Wanted::Strategy => "alinea, plan or limiter",
-        Wanted::Base => "alinea or plan",
-        Wanted::Head => "relay or current",
-        Wanted::Buffer => "line/ and a number from 0 to 1000",
-    }
-}
 
 // Names what should have stood in a field.
 impl fmt::Display for Wanted {
     ghost output = { λ w. Some (wanted_text w) };
 
     fn fmt<W: fmt::Write>(&self, f: &mut fmt::Formatter<W>) -> fmt::Result {
-        f.write_str(wanted_text(*self))
+        f.write_str(match self {
+            Wanted::Number => "a number from 0 to 4294967295",
+            Wanted::Presence => "0 or 1",
+            Wanted::Word => "ok or a number from 0 to 4294967295",
+            Wanted::Lane => "a lane of three numbers, SEEN|SOUND|BUSY,",
+            Wanted::Range => "a range of two numbers, FROM..TO,",
+            Wanted::Strategy => "alinea, plan or limiter",
+            Wanted::Base => "alinea or plan",
+            Wanted::Head => "relay or current",
+            Wanted::Buffer => "line/ and a number from 0 to 1000",
+        })
     }
 }
 

@@ -70,7 +70,8 @@ pub enum Word {
     Given(u32),
 }
 
-// Up to so many values of one kind. They stand in an array, since a row is kept in fixed memory.
+// Up to so many values of one kind. They stand in an array, since a row is kept in fixed memory, and
+// in none of the library's of fixed room, since a row is Copy.
 #[derive(Clone, Copy, Debug, PartialEq, Eq)]
 pub struct UpTo<T, const MOST: usize> {
     items: [T; MOST],

@@ -43,7 +43,8 @@ impl Value for HeadKind {
     }
 }
 
-// The word for a strategy that has none below it.
+// The word for a strategy that has none below it. It is a value of its field, read and refused like any other, before the
+// fields behind it are read.
 #[derive(Clone, Copy)]
 pub(crate) enum BaseWord {
     Alinea,

@@ -22,7 +22,8 @@ pub struct Peak<S> {
     periods: u32,
 }
 
-// Tells the strategy what a period closed with, and answers the period's row.
+// Tells the strategy what a period closed with, and answers the period's row. A station's close makes a record instead, with
+// openings, which nobody counts here.
 fn close<S: Strategy>(
     strategy: &mut S,
     number: u32,

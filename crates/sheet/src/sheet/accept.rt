@@ -57,6 +57,7 @@ fn place_outside(limits: &[(u32, u32)], figures: &[u32]) -> Option<usize>
 fn check_limits(draft: &Draft) -> Result<(), Cause>
     ensures { result ≡ checked (cause_of_limits draft.now) }
 {
+    // A match, since `ok_or` goes the other way: here a place found is the cause.
     match place_outside(&LIMITS, &draft.figures()) {
         Some(place) => Err(Cause::OutsideLimits(place as u32 + 1)),
         None => Ok(()),

@@ -25,6 +25,8 @@ use sheet::calendar::MinuteRange;
 use sheet::sheet::Sheet;
 use strategy::strategy::Strategy;
 
+// The clauses `sheet` and `few` stand with each call that they hold of: no type says of a call that it leaves a field as it
+// was, or how large a number is that it answers.
 impl<S: Strategy, H: LampHead> Station<S, H> {
     // Opens a station: standby, local mode, not wanted, no centre's cycle, the head restored and dark, all counts 0.
     pub fn open(sheet: Sheet, strategy: S, mut head: H) -> Station<S, H>
@@ -47,7 +49,6 @@ impl<S: Strategy, H: LampHead> Station<S, H> {
         }
     }
 
-    // Of each act, `sheet`: no type says of a call that it leaves a field as it was.
     // One second. Puts a period record into the ring of periods where a period closes, and an alarm record into that of alarms where it trips.
     pub fn second(
         &mut self,

@@ -14,7 +14,7 @@ pub struct Field<'a> {
 }
 
 // What an observer may see: the colour that the head means, the phase, the mode, whether metering is wanted, and the length of the running reference
-// cycle (0 outside metering).
+// cycle (0 outside metering, as the reading of the cycles has it).
 #[derive(Clone, Copy)]
 pub struct View {
     pub colour: Colour,

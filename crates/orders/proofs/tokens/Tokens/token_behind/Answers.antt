@@ -11,9 +11,5 @@ behind-phrase : (r : Result Token OrderFault) (w : List ℕ) (a m b : Tokens) �
 behind-phrase (Ok t) w a m b h k = λ f fs v e. h f fs v (at_part (f ∷ fs) (part_of t) m b v k.0 k.1 e)
 behind-phrase (Err e) w a m b h k = λ f fs none. h f fs (Err e) (at_end (f ∷ fs) m b e none k)
 
-pub returns-in_err-phrase : goal.returns-in_err-phrase
-returns-in_err-phrase c =
-    handed_on (λ r. BehindPhrase r c.args.words.now c.args.self.now c.phrase.new.self) _ _ c.from_residual.ensures.1 (λ f fs none. c.in_err-phrase.ensures f fs)
-
 pub returns : goal.returns
 returns c = behind-phrase c.required.result c.args.words.now c.args.self.now c.phrase.new.self c.required.new.self c.in_ok-phrase.ensures c.required.ensures

@@ -14,11 +14,5 @@ moving c =
       occupancy_fits = omega arith;
     }
 
-pub overflow_mul-result : goal.overflow_mul-result
-overflow_mul-result c = product_fits _ _ _ _ _ _ _ (moving c)
-
-pub overflow_add-result : goal.overflow_add-result
-overflow_add-result c = moved_fits _ _ _ _ _ _ _ (moving c)
-
 pub returns : goal.returns
 returns c = moved_is _ _ _ _ _ _ _ (moving c)
