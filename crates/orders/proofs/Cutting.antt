@@ -13,9 +13,6 @@ use Rattle.orders.specs.Tokens.{Part, part, in_word, is_mark, in_token, word_her
 pub word_no_mark : (b : ℕ) → in_word b ≡ true → is_mark b ≡ false
 word_no_mark b h = grind (arith, nat_tests)
 
-pub mark_no_word : (b : ℕ) → is_mark b ≡ true → in_word b ≡ false
-mark_no_word b h = grind (arith, nat_tests)
-
 -- a byte of a token that is no mark is of a word
 pub word_left : (b : ℕ) → in_token b ≡ true → (b ≡ 44 → ⊥) → (b ≡ 61 → ⊥) → (b ≡ 47 → ⊥) → in_word b ≡ true
 word_left b h x y z = grind (arith, nat_tests)

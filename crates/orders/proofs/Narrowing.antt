@@ -1,9 +1,9 @@
 -- Tokens read one by one, each narrowing the lines to those that go on with it, give what the table says of them all.
-use Rattle.std.proofs.Common.{◌≡◌, ℕ, suc, max, Bool, true, false, cond, ◌&&◌, List, [], ◌∷◌, ◌++◌, IsErrAnd, Some, None, Err, Result, sym, refl, ap, subst, ◌∙◌, ⊎_elim, arith}
+use Rattle.std.proofs.Common.{◌≡◌, ℕ, suc, max, Bool, true, false, cond, ◌&&◌, List, [], ◌∷◌, ◌++◌, IsErrAnd, Some, None, Err, Result, sym, refl, ap, subst, ◌∙◌, arith}
 use Rattle.std.specs.Str.{bytes_eq}
 use Rattle.std.proofs.lemmas.Result.{err_from_is_err_and}
 use Rattle.std.proofs.lemmas.Slice.Eq.{bytes_eq-Decides}
-use Rattle.std.proofs.lemmas.Bool.{cond-true, cond-false, cases_Bool}
+use Rattle.std.proofs.lemmas.Bool.{cond-true, cond-false}
 use Rattle.orders.specs.declared.fault.OrderFault.{OrderFault}
 use Rattle.orders.specs.declared.fault.OrderFault.TheVariants.{Token as NoSuchToken}
 use Rattle.orders.specs.declared.tokens.Tokens.{Tokens}
@@ -67,9 +67,6 @@ at_part fs p a b v e n h seen =
 pub at_end : (fs : List Form) (a b : Tokens) (f : OrderFault) → found fs [] ≡ None → Required (Err f) a b → Reads (Err f) fs a
 at_end fs a b f none k seen =
     ap Err k.1 ∙ sym (ap (λ o. verdict o seen (whole_length a)) none) ∙ ap (λ ps. form_order seen fs ps (whole_length a)) (sym k.0)
-
-pub differs : (w t : List ℕ) → (w ≡ t → ⊥) → bytes_eq w t ≡ false
-differs w t n = ⊎_elim (λ e. absurd (n ((bytes_eq-Decides w t).0 e))) (λ e. e) (cases_Bool (bytes_eq w t))
 
 pub same_self : (w : List ℕ) → bytes_eq w w ≡ true
 same_self w = (bytes_eq-Decides w w).1 refl

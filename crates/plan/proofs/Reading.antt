@@ -1,6 +1,5 @@
 -- Values read one after another into a list.
 use Rattle.std.proofs.Common.{◌≡◌, ℕ, zero, suc, ◌+◌, ◌-◌, ◌<◌, ◌≤◌, true, false, List, [], ◌∷◌, ◌++◌, length, take, drop, set, Ok, Err, Option, Result, inl, inr, ◌⊎◌, sym, refl, ap, ◌∙◌, arith}
-use native.Mathlib.Nat.{sub-zero}
 use Rattle.std.proofs.lemmas.List.{append-nil, append_assoc, length-set, take_all, take_more_set, drop-set-lt, drop-drop}
 use Rattle.std.proofs.lemmas.Bool.{cond-false}
 use Rattle.plan.specs.declared.row.RowFault.{RowFault}
@@ -27,13 +26,6 @@ pub record Reading {A : Type 0} (several : ℕ → Numbered → Result (List A) 
   pub long : length new ≡ length old
   pub told : several (length old) fs ≡ prepend (take k new) (several (length old - k) gs)
   pub same : drop k new ≡ drop k old
-
-pub reading_none : {A : Type 0} (several : ℕ → Numbered → Result (List A) RowFault) (fs : Numbered) (old : List A) → Reading several fs old old 0 fs
-reading_none several fs old = record {
-  long = refl;
-  told = simp sub-zero (prepend_none (several (length old) fs));
-  same = refl;
-}
 
 module _ {A : Type 0} {several : ℕ → Numbered → Result (List A) RowFault} {fs : Numbered} {old new : List A} {k : ℕ} {gs : Numbered}
     (r : Reading several fs old new k gs) where

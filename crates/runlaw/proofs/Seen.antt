@@ -1,5 +1,5 @@
 -- What the law reads of a log, as one record, and how one more row changes it; and the invariant over it.
-use Rattle.std.proofs.Common.{◌≡◌, ℕ, ◌+◌, ◌-◌, ◌≤◌, max, Bool, true, false, cond, not, ◌&&◌, ◌||◌, ltb, ◌∷◌, sym, refl, subst}
+use Rattle.std.proofs.Common.{◌≡◌, ℕ, ◌+◌, ◌-◌, ◌≤◌, max, Bool, true, false, cond, not, ◌&&◌, ◌||◌, ltb, sym, subst}
 use Rattle.sheet.specs.declared.sheet.Sheet.{Sheet}
 use Rattle.lamps.specs.declared.colour.Colour.{Colour}
 use Rattle.control.specs.declared.stage.Light.{Light}
@@ -9,7 +9,7 @@ use Rattle.control.specs.declared.stage.Stage.{Stage}
 use Rattle.control.specs.declared.stage.Stage.TheVariants as stage
 use Rattle.control.specs.Figures.{T2, JC, JF, RM}
 use Rattle.control.specs.Phases.{phase_of, colour_of}
-use Rattle.runlaw.specs.Log.{in_metering, Log, row, colour_now, phase_now, metering_now, cycle_now, lasted_now}
+use Rattle.runlaw.specs.Log.{in_metering, Log, colour_now, phase_now, metering_now, cycle_now, lasted_now}
 use Rattle.runlaw.specs.RunLaw.{is_red, is_amber, is_flashing, same, stretch, after_flash, after_amber, openings, begun, waits_now, waited, wait_cycle, MayFollow}
 
 pub record Seen : Type 0 where
@@ -66,11 +66,6 @@ grown_by metering on c p pr fixed d =
 abbrev pub grown : (trip presence : Bool) → ℕ → Seen → Stage → Seen
 grown t pr fixed d s =
     grown_by (not t && (in_metering (phase_of s) || d.inside)) (d.metering && ltb d.lasted d.cycle) (colour_of s) (in_metering (phase_of s)) pr fixed d
-
-pub seen_row :
-    (t pr reset : Bool) (fixed : ℕ) (rs : Log) (s : Stage) →
-    seen (row (colour_of s) (phase_of s) t pr reset fixed rs ∷ rs) ≡ grown t pr fixed (seen rs) s
-seen_row t pr reset fixed rs s = refl
 
 -- the invariant between what is seen and the stage
 abbrev pub LightTied : Sheet → Seen → Meter → Light → Type 0

@@ -1,5 +1,5 @@
 -- The flow that ALINEA moves fits 64 bits: a gain of at most 200, times a difference of two 32-bit numbers, and a 32-bit flow.
-use Rattle.std.proofs.Common.{◌≡◌, ℕ, zero, suc, ◌+◌, ◌*◌, ◌^◌, ◌<◌, ◌≤◌, ℤ, pos, negsuc, ◌+ℤ◌, ◌-ℤ◌, ◌*ℤ◌, neg_ℤ, ◌≤ℤ◌, sym, ap, ◌∙◌, subst, mul-le-mul_right, arith, w64, SFits, to_z, of_z}
+use Rattle.std.proofs.Common.{◌≡◌, ℕ, zero, suc, ◌+◌, ◌*◌, ◌^◌, ◌<◌, ◌≤◌, ℤ, pos, negsuc, ◌+ℤ◌, ◌-ℤ◌, ◌*ℤ◌, neg_ℤ, ◌≤ℤ◌, ap, ◌∙◌, mul-le-mul_right, arith, w64, to_z, of_z}
 use lib.Signed.{mag}
 use Rattle.std.proofs.lemmas.Int.{ints, to_z-of_z}
 use Rattle.strategy.specs.Alinea.{moved_flow}
@@ -58,12 +58,6 @@ module _ (f g room : ℤ) (flow gain critical occupancy : ℕ) (m : Moving f g r
       ap (λ x. x *ℤ word room) (word_pos g gain m.gain_is (omega arith)) ∙
       ap (λ x. pos gain *ℤ x) (ap word m.room_is ∙ word_is (pos critical -ℤ pos occupancy) (omega arith))
 
-  pub product_fits : SFits w64 (word g *ℤ word room)
-  product_fits =
-      let h = gained_small in
-      let q : mag (pos gain *ℤ (pos critical -ℤ pos occupancy)) < 2 ^ 63 = omega arith in
-      record { sfits = subst (λ (z : ℤ). mag z < 2 ^ 63) (sym gained) q }
-
   moved : word f +ℤ word (word g *ℤ word room) ≡ moved_flow gain critical flow occupancy
   moved =
       let h = gained_small in
@@ -72,9 +66,6 @@ module _ (f g room : ℤ) (flow gain critical occupancy : ℕ) (m : Moving f g r
 
   moved_small : mag (moved_flow gain critical flow occupancy) < 2 ^ 63
   moved_small = sum_small flow (pos gain *ℤ (pos critical -ℤ pos occupancy)) m.flow_fits gained_small
-
-  pub moved_fits : SFits w64 (word f +ℤ word (word g *ℤ word room))
-  moved_fits = record { sfits = subst (λ (z : ℤ). mag z < 2 ^ 63) (sym moved) moved_small }
 
   pub moved_is : word (word f +ℤ word (word g *ℤ word room)) ≡ moved_flow gain critical flow occupancy
   moved_is = ap word moved ∙ word_is (moved_flow gain critical flow occupancy) moved_small

@@ -3,7 +3,7 @@ use Rattle.orders.specs.declared.fault.OrderFault.{OrderFault}
 use Rattle.orders.specs.declared.token.Token.{Token}
 use Rattle.orders.specs.declared.tokens.Tokens.{Tokens}
 use Rattle.orders.specs.Reading.{part_of, Required, Phrased, BehindPhrase}
-use Rattle.orders.proofs.Narrowing.{at_part, at_end, handed_on}
+use Rattle.orders.proofs.Narrowing.{at_part, at_end}
 use Rattle.orders.proofs.tokens.Tokens.token_behind.Goals as goal
 
 -- the phrase was read, and then the token behind it, if there was one

@@ -1,5 +1,5 @@
 use Rattle.std.proofs.Common.{arith}
-use Rattle.strategy.proofs.Products.{Moving, product_fits, moved_fits, moved_is}
+use Rattle.strategy.proofs.Products.{Moving, moved_is}
 use Rattle.strategy.proofs.alinea.Alinea.moved_flow.Goals as goal
 
 moving : (c : goal.After-below_critical) → Moving c.from.result c.from-2.result c.below_critical.result c.args.self.now.flow_tenths c.args.self.now.gain c.args.self.now.critical_occupancy c.args.occupancy
