@@ -103,6 +103,7 @@ module _ {S H : Type 0} (st : StrategyMeaning S) (hd : HeadMeaning H) where
 abbrev pub view_of : {S H : Type 0} → HeadMeaning H → Station S H → View
 view_of hd t =
     record {
+      seconds = t.counts.seconds;
       colour = hd.colour t.head;
       phase = phase_of t.stage;
       mode = t.command.mode;

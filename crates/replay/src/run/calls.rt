@@ -3,7 +3,7 @@ ghost use Rattle.std.specs.Prelude.{◌≡◌, ℕ, min, [], length, take, drop}
 ghost use Rattle.runlaw.specs.History.{History};
 ghost use Rattle.runlaw.specs.Log.{Log, log};
 ghost use Rattle.observer.specs.Totals.{observer_of, unless_taken, totals_of, refusals_in};
-ghost use Rattle.station.specs.Station.{Looked};
+ghost use Rattle.station.specs.Station.{Looked, view_of};
 ghost use Rattle.replay.specs.declared.act.Act.TheVariants.{Second as SecondOf, Line as LineOf, Reset as ResetOf};
 ghost use Rattle.replay.specs.Acts.{extended};
 ghost use Rattle.replay.specs.Played.{RanThrough, ActPlayed, Played};
@@ -115,7 +115,8 @@ impl<S: Strategy, H: LampWords> Run<S, H> {
 
     // What is seen of the station, with the run law of every history that the run went through.
     pub fn look(&self) -> View
-        ensures { (s : S) (h : History) → RanThrough S.Strategy H.LampHead self.now s h → Looked S.Strategy H.LampHead self.now.station result s h }
+        ensures view { result ≡ view_of H.LampHead self.now.station }
+        ensures looked { (s : S) (h : History) → RanThrough S.Strategy H.LampHead self.now s h → Looked S.Strategy H.LampHead self.now.station result s h }
     {
         self.station.look()
     }

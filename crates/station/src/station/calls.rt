@@ -140,6 +140,7 @@ impl<S: Strategy, H: LampHead> Station<S, H> {
         ensures looked { (s : S) (h : History) → Lived S.Strategy H.LampHead self.now s h → Looked S.Strategy H.LampHead self.now result s h }
     {
         View {
+            seconds: self.counts.seconds,
             colour: self.head.ordered(),
             phase: self.stage.phase(),
             mode: self.command.mode,

@@ -13,10 +13,11 @@ pub struct Field<'a> {
     pub lanes: &'a [LaneReading],
 }
 
-// What an observer may see: the colour that the head means, the phase, the mode, whether metering is wanted, and the length of the running reference
+// What an observer may see: the number of the newest second (0 before the first), the colour that the head means, the phase, the mode, whether metering is wanted, and the length of the running reference
 // cycle (0 outside metering, as the reading of the cycles has it).
 #[derive(Clone, Copy)]
 pub struct View {
+    pub seconds: u32,
     pub colour: Colour,
     pub phase: Phase,
     pub mode: Mode,

@@ -10,6 +10,7 @@ returns g c =
     let f = self.sheet in
     record {
       view = λ i. record {
+        seconds = self.counts.seconds;
         colour = c.ordered.ensures.value i;
         phase = c.phase.ensures i;
         mode = self.command.mode;
