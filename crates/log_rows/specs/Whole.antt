@@ -1,16 +1,15 @@
 -- What the rows of a whole run's log write.
-use Rattle.std.specs.Prelude.{ℕ, List, [], ◌∷◌, ◌++◌, Some, codes, decimal}
+use Rattle.std.specs.Prelude.{ℕ, List, [], ◌∷◌, ◌++◌, codes, decimal}
+use Rattle.std.specs.Option.{option_map}
 use Rattle.lamps.specs.Sets.{number_of}
 use Rattle.orders.specs.declared.fault.Refusal.{Refusal}
 use Rattle.records.specs.declared.alarm.AlarmRecord.{AlarmRecord}
 use Rattle.records.specs.declared.period.PeriodRecord.{PeriodRecord}
 use Rattle.records.specs.Codes.{code_number}
 use Rattle.observer.specs.declared.totals.Totals.{Totals}
-use Rattle.log_rows.specs.declared.row.Closing.{Closing}
-use Rattle.log_rows.specs.declared.row.PeriodRow.{PeriodRow}
 use Rattle.log_rows.specs.declared.second.SecondRow.{SecondRow}
 use Rattle.log_rows.specs.Fields.{colour_text, phase_text, sign_text, refusal_fields, trip_text}
-use Rattle.log_rows.specs.Rows.{fields_text, period_text, closing_text}
+use Rattle.log_rows.specs.Rows.{fields_text, number_or_dash}
 
 -- second;NUMBER;COLOUR;PHASE;SIGN;TRIP;CYCLE
 abbrev pub second_text : SecondRow → List ℕ
@@ -20,13 +19,13 @@ second_text s =
     (decimal s.number ∷ colour_text s.answer.colour ∷ phase_text s.answer.phase ∷ sign_text s.answer.sign ∷
     trip_text s.answer.trip ∷ decimal s.cycle ∷ [])
 
--- the row of a period that a record keeps, with the openings counted
-abbrev pub row_of : PeriodRecord → PeriodRow
-row_of p = record { number = p.number; minute = p.minute; measure = p.measure; cycle = p.cycle; openings = Some p.openings }
-
 -- period;NUMBER;MINUTE;FLOW;OCCUPANCY;CYCLE;OPENINGS
 abbrev pub record_text : PeriodRecord → List ℕ
-record_text p = period_text (row_of p)
+record_text p =
+    codes "period" ++
+    fields_text
+    (decimal p.number ∷ decimal p.minute ∷ number_or_dash (option_map (λ m. m.flow) p.measure) ∷
+    number_or_dash (option_map (λ m. m.occupancy_permille) p.measure) ∷ decimal p.cycle ∷ decimal p.openings ∷ [])
 
 -- alarm;SECOND;CODE;LAMP;PHASE
 abbrev pub alarm_text : AlarmRecord → List ℕ
@@ -50,11 +49,9 @@ reset_taken_text = codes "reset;taken"
 abbrev pub reset_refused_text : Refusal → List ℕ
 reset_refused_text r = codes "reset;refused" ++ fields_text (refusal_fields r)
 
--- the closing row of a run with these totals, every figure counted
-abbrev pub closing_of : Totals → Closing
-closing_of t =
-    record { seconds = t.seconds; openings = Some t.openings; longest = Some t.longest; trips = Some t.trips; refusals = Some t.refusals }
-
 -- trial;SECONDS;OPENINGS;LONGEST;TRIPS;REFUSALS
 abbrev pub totals_text : Totals → List ℕ
-totals_text t = closing_text (closing_of t)
+totals_text t =
+    codes "trial" ++
+    fields_text
+    (decimal t.seconds ∷ decimal t.openings ∷ decimal t.longest ∷ decimal t.trips ∷ decimal t.refusals ∷ [])
