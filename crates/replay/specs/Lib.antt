@@ -1,5 +1,4 @@
 pub mod Setup
-pub mod Peak
 pub mod Replies
 pub mod Acts
 pub mod Played

@@ -4,7 +4,6 @@
 pub mod act;
 pub mod answered;
 mod once;
-pub mod peak;
 pub mod run;
 pub mod setup;
 pub mod worked;

@@ -1,9 +1,19 @@
 // A plan from its first row to its last.
 use crate::rows::Rows;
-use crate::stop::{Fault, Stop};
-use log_rows::row::{Closing, SheetRefused};
-use plan::row::{Base, Limits, Row, SecondRow};
-use replay::peak::Peak;
+use crate::stop::Stop;
+use crate::told::second_act;
+use crate::written::write_answered;
+use lamps::current::CurrentHead;
+use lamps::head::LampWords;
+use lamps::relay::RelayHead;
+use log_rows::closing::Closing;
+use log_rows::row::SheetRefused;
+use observer::totals::Totals;
+use plan::row::{Base, Calendar, HeadKind, Limits, Row};
+use plan::text::command_text;
+use replay::act::{Act, LineAct};
+use replay::answered::{Answered, Outcome};
+use replay::run::Run;
 use replay::setup::{Misplaced, Opening, Setup, Slot};
 use sheet::draft::Draft;
 use sheet::sheet::Sheet;
@@ -13,36 +23,60 @@ use strategy::hourly::HourlyPlan;
 use strategy::limiter::Limiter;
 use strategy::strategy::Strategy;
 
-// The plan that is read, and where its log goes.
+// How many acts are played at once, at most.
+const CHUNK: usize = 60;
+
+// The plan that is read, with the calendar at the moment, and where its log goes.
 #[derive(Drop)]
 struct Trial<R, W> {
     rows: Rows<R>,
+    calendar: Option<Calendar>,
     out: W,
 }
 
-impl<R: Read + Drop, W: Write + Drop> Trial<R, W> {
-    // Writes the closing row of a run of so many seconds.
-    fn write_closing(&mut self, seconds: u32) -> Result<(), Stop> {
-        let closing = Closing {
-            seconds,
-            openings: None,
-            longest: None,
-            trips: None,
-            refusals: None,
-        };
-        writeln!(self.out, "{closing}")?;
-        Ok(())
+// Plays a chunk of acts and writes their rows. There are places for as many answers as a chunk has acts.
+fn play<S: Strategy, H: LampWords, W: Write>(
+    out: &mut W,
+    run: &mut Run<S, H>,
+    acts: &[Act<'_>],
+    answers: &mut [Answered],
+) -> Result<(), Stop> {
+    let count = run.play(acts, answers);
+    for answered in answers.iter().take(count) {
+        write_answered(out, answered)?;
     }
+    Ok(())
+}
 
-    // One second, and the row of the period that it closes.
-    fn do_second<S: Strategy>(
-        &mut self,
-        peak: &mut Peak<S>,
-        second: &SecondRow,
-    ) -> Result<(), Stop> {
-        if let Some(row) = peak.second(second.minute, second.lanes.as_slice()) {
-            writeln!(self.out, "{row}")?;
-        }
+// Plays one act.
+fn play_one<S: Strategy, H: LampWords, W: Write>(
+    out: &mut W,
+    run: &mut Run<S, H>,
+    act: Act<'_>,
+    answers: &mut [Answered],
+) -> Result<(), Stop> {
+    play(out, run, &[act], answers)
+}
+
+// Plays so many acts that are all alike.
+fn play_alike<S: Strategy, H: LampWords, W: Write>(
+    out: &mut W,
+    run: &mut Run<S, H>,
+    count: usize,
+    act: Act<'_>,
+    answers: &mut [Answered],
+) -> Result<(), Stop> {
+    let acts = [act; CHUNK];
+    for _ in 0..count / CHUNK {
+        play(out, run, &acts, answers)?;
+    }
+    play(out, run, &acts[..count % CHUNK], answers)
+}
+
+impl<R: Read + Drop, W: Write + Drop> Trial<R, W> {
+    // Writes the closing row of a run with these totals.
+    fn write_closing(&mut self, totals: Totals) -> Result<(), Stop> {
+        writeln!(self.out, "{}", Closing(totals))?;
         Ok(())
     }
 
@@ -52,67 +86,111 @@ impl<R: Read + Drop, W: Write + Drop> Trial<R, W> {
     }
 
     // What a row does once the station is opened.
-    fn do_row<S: Strategy>(&mut self, peak: &mut Peak<S>, row: &Row) -> Result<(), Stop> {
+    fn do_row<S: Strategy, H: LampWords>(
+        &mut self,
+        run: &mut Run<S, H>,
+        answers: &mut [Answered],
+        row: &Row,
+    ) -> Result<(), Stop> {
         match row {
-            Row::Blank | Row::Calendar(_) => Ok(()),
-            Row::Second(second) => self.do_second(peak, second),
-            Row::Seconds { count, second } => {
-                for _ in 0..*count {
-                    self.do_second(peak, second)?;
-                }
+            Row::Blank => Ok(()),
+            Row::Calendar(ranges) => {
+                self.calendar = Some(*ranges);
                 Ok(())
             }
-            Row::Line { .. } | Row::Reset => Err(self.rows.malformed(Fault::NotBuilt)),
+            Row::Second(second) => {
+                let act = Act::Second(second_act(second, &self.calendar));
+                play_one(&mut self.out, run, act, answers)
+            }
+            Row::Seconds { count, second } => {
+                let act = Act::Second(second_act(second, &self.calendar));
+                play_alike(&mut self.out, run, *count as usize, act, answers)
+            }
+            Row::Line { buffer } => {
+                let act = Act::Line(LineAct {
+                    text: command_text(self.rows.text()),
+                    room: *buffer as usize,
+                });
+                play_one(&mut self.out, run, act, answers)
+            }
+            Row::Reset => play_one(&mut self.out, run, Act::Reset, answers),
             Row::Sheet(_) => Err(self.too_late(Slot::Sheet)),
             Row::Strategy(_) => Err(self.too_late(Slot::Strategy)),
             Row::Head(_) => Err(self.too_late(Slot::Head)),
         }
     }
 
-    // The acts of a plan, from the first on, over one strategy.
-    fn do_acts<S: Strategy + Drop>(
+    // The acts of a plan, from the first on, and the closing row.
+    fn do_acts<S: Strategy + Drop, H: LampWords + Drop>(
         &mut self,
-        sheet: &Sheet,
-        strategy: S,
+        mut run: Run<S, H>,
         first: &Row,
     ) -> Result<(), Stop> {
-        let mut peak = Peak::new(sheet, strategy);
-        self.do_row(&mut peak, first)?;
+        let none = Answered {
+            outcome: Outcome::Reset(Ok(())),
+            view: run.look(),
+        };
+        let mut answers = [none; CHUNK];
+        self.do_row(&mut run, &mut answers, first)?;
         // A count, since a `while let` owes a measure that falls, and no contract says that input ends.
         for _ in 0..u64::MAX {
             let Some(row) = self.rows.next_row()? else {
                 break;
             };
-            self.do_row(&mut peak, &row)?;
+            self.do_row(&mut run, &mut answers, &row)?;
         }
-        self.write_closing(peak.seconds())
+        self.write_closing(run.totals())
+    }
+
+    // The same, with the lamp head that the plan asks for.
+    fn do_with_head<S: Strategy + Drop>(
+        &mut self,
+        sheet: Sheet,
+        strategy: S,
+        head: HeadKind,
+        first: &Row,
+    ) -> Result<(), Stop> {
+        match head {
+            HeadKind::Relay => self.do_acts(Run::open(sheet, strategy, RelayHead::new()), first),
+            HeadKind::Current => self.do_acts(
+                Run::open(sheet, strategy, CurrentHead::new()),
+                first,
+            ),
+        }
     }
 
     // The same, under the limiters of the plan.
     fn do_limited<S: Strategy + Drop>(
         &mut self,
-        sheet: &Sheet,
-        limits: Limits,
+        opening: Opening,
         strategy: S,
         first: &Row,
     ) -> Result<(), Stop> {
-        match limits {
-            Limits::Unlimited => self.do_acts(sheet, strategy, first),
-            Limits::Once(step) => self.do_acts(sheet, Limiter::new(strategy, step), first),
+        let Opening {
+            sheet,
+            strategy: asked,
+            head,
+        } = opening;
+        match asked.limits {
+            Limits::Unlimited => self.do_with_head(sheet, strategy, head, first),
+            Limits::Once(step) => {
+                self.do_with_head(sheet, Limiter::new(strategy, step), head, first)
+            }
             Limits::Twice { outer, inner } => {
                 let limited = Limiter::new(Limiter::new(strategy, inner), outer);
-                self.do_acts(sheet, limited, first)
+                self.do_with_head(sheet, limited, head, first)
             }
         }
     }
 
-    // The acts of a plan, from the first on, with the strategy that it asks for.
-    fn do_opened(&mut self, opening: &Opening, first: &Row) -> Result<(), Stop> {
-        let sheet = &opening.sheet;
-        let limits = opening.strategy.limits;
+    // The acts of a plan, from the first on, on a station opened with what stands before it.
+    fn do_opened(&mut self, opening: Opening, first: &Row) -> Result<(), Stop> {
         match opening.strategy.base {
-            Base::Alinea => self.do_limited(sheet, limits, Alinea::new(sheet), first),
-            Base::Hourly(cycles) => self.do_limited(sheet, limits, HourlyPlan::new(cycles), first),
+            Base::Alinea => {
+                let alinea = Alinea::new(&opening.sheet);
+                self.do_limited(opening, alinea, first)
+            }
+            Base::Hourly(cycles) => self.do_limited(opening, HourlyPlan::new(cycles), first),
         }
     }
 
@@ -137,7 +215,8 @@ impl<R: Read + Drop, W: Write + Drop> Trial<R, W> {
     // Takes a row before the first act. Answers the row where it is an act.
     fn prepare(&mut self, setup: &mut Setup, row: Row) -> Result<Option<Row>, Stop> {
         match row {
-            Row::Blank | Row::Calendar(_) => {}
+            Row::Blank => {}
+            Row::Calendar(ranges) => self.calendar = Some(ranges),
             Row::Sheet(figures) => {
                 self.expect(setup, Slot::Sheet)?;
                 setup.set_sheet(self.judge(figures)?);
@@ -175,10 +254,10 @@ impl<R: Read + Drop, W: Write + Drop> Trial<R, W> {
         match self.first_act(&mut setup)? {
             Some(act) => {
                 let opening = setup.open().map_err(|fault| self.rows.malformed(fault))?;
-                self.do_opened(&opening, &act)
+                self.do_opened(opening, &act)
             }
             None if needed && self.rows.is_fresh() => Err(Stop::Usage),
-            None => self.write_closing(0),
+            None => self.write_closing(Totals::default()),
         }
     }
 }
@@ -187,6 +266,7 @@ impl<R: Read + Drop, W: Write + Drop> Trial<R, W> {
 pub(crate) fn run<R: Read + Drop>(rt: &HostRuntime, from: R, needed: bool) -> Result<(), Stop> {
     let mut trial = Trial {
         rows: Rows::new(rt.alloc(), from)?,
+        calendar: None,
         out: BufWriter::new(rt.alloc(), rt.stdout())?,
     };
     let done = trial.do_plan(needed);

@@ -4,6 +4,8 @@
 mod drive;
 mod rows;
 mod stop;
+mod told;
+mod written;
 
 use crate::drive::run;
 use crate::stop::Stop;

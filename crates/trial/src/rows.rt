@@ -30,10 +30,14 @@ impl<R: Read + Drop> Rows<R> {
         if self.from.read_until(b'\n', &mut self.raw)? == 0 {
             return Ok(None);
         }
-        let first = self.number == 0;
         self.number = self.number.saturating_add(1);
-        let row = read_row(row_text(self.raw.as_slice(), first)).map_err(|e| self.malformed(e))?;
+        let row = read_row(self.text()).map_err(|e| self.malformed(e))?;
         Ok(Some(row))
+    }
+
+    // The text of the row read last.
+    pub(crate) fn text(&self) -> &[u8] {
+        row_text(self.raw.as_slice(), self.number == 1)
     }
 
     // Has no row been read?

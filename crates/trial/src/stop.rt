@@ -12,8 +12,6 @@ pub enum Fault {
     Row(#[from] RowFault),
     #[error("{0}")]
     Misplaced(#[from] Misplaced),
-    #[error("command lines and breaker resets are not built yet")]
-    NotBuilt,
 }
 
 // Why a run ends early; a row with its number.

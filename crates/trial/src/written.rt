@@ -1,0 +1,60 @@
+// Writing the rows of the log.
+ghost use Rattle.std.specs.Prelude.{◌≡◌};
+ghost use Rattle.trial.specs.Written.{row_of};
+
+use control::answer::Refused;
+use log_rows::acts::{LineRefused, LineTaken, ResetRefused, ResetTaken};
+use log_rows::alarm::AlarmRow;
+use log_rows::period::PeriodRow;
+use log_rows::second::SecondRow;
+use replay::answered::{Answered, Outcome, Reply, SecondOutcome};
+use station::station::field::View;
+use std::io::{self, Write};
+
+// The row of a second.
+fn second_row(outcome: &SecondOutcome, view: View) -> SecondRow
+    ensures { result ≡ row_of outcome.now view }
+{
+    SecondRow {
+        number: view.seconds,
+        answer: outcome.answer,
+        cycle: view.cycle,
+    }
+}
+
+// The rows of a second: its own, that of the period which it closed, and that of its alarm.
+fn write_second<W: Write>(out: &mut W, outcome: &SecondOutcome, view: View) -> io::Result<()> {
+    writeln!(out, "{}", second_row(outcome, view))?;
+    if let Some(record) = outcome.period {
+        writeln!(out, "{}", PeriodRow(record))?;
+    }
+    if let Some(record) = outcome.alarm {
+        writeln!(out, "{}", AlarmRow(record))?;
+    }
+    Ok(())
+}
+
+// The row of a command line.
+fn write_line<W: Write>(out: &mut W, answer: &Result<Reply, Refused>) -> io::Result<()> {
+    match answer {
+        Ok(reply) => writeln!(out, "{}", LineTaken(reply.as_slice())),
+        Err(refused) => writeln!(out, "{}", LineRefused(refused.refusal())),
+    }
+}
+
+// The row of a breaker reset.
+fn write_reset<W: Write>(out: &mut W, answer: &Result<(), Refused>) -> io::Result<()> {
+    match answer {
+        Ok(()) => writeln!(out, "{ResetTaken}"),
+        Err(refused) => writeln!(out, "{}", ResetRefused(refused.refusal())),
+    }
+}
+
+// The rows of an act.
+pub(crate) fn write_answered<W: Write>(out: &mut W, answered: &Answered) -> io::Result<()> {
+    match &answered.outcome {
+        Outcome::Second(outcome) => write_second(out, outcome, answered.view),
+        Outcome::Line(result) => write_line(out, result),
+        Outcome::Reset(result) => write_reset(out, result),
+    }
+}
