@@ -6,6 +6,8 @@ mod command_lines;
 #[cfg(test)]
 mod copies;
 #[cfg(test)]
+mod counts;
+#[cfg(test)]
 mod ends;
 #[cfg(test)]
 mod faults;
