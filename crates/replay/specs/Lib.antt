@@ -2,4 +2,3 @@ pub mod Setup
 pub mod Replies
 pub mod Acts
 pub mod Played
-pub mod Worked

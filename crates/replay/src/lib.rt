@@ -6,4 +6,3 @@ pub mod answered;
 mod once;
 pub mod run;
 pub mod setup;
-pub mod worked;

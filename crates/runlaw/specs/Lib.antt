@@ -1,3 +1,5 @@
 pub mod History
 pub mod Log
 pub mod RunLaw
+pub mod Worked
+pub mod Steps

@@ -2,7 +2,7 @@ use Rattle.std.proofs.Common.{refl}
 use Rattle.orders.specs.Lines.{lines}
 use Rattle.orders.proofs.WorkedLines.{worked_lines}
 use Rattle.orders.specs.Tokens.{tokens_from}
-use Rattle.replay.proofs.worked.worked_figures_hold.Goals as goal
+use Rattle.runlaw.proofs.worked.worked_figures_hold.Goals as goal
 
 pub returns : goal.returns
 unfolding lines tokens_from
