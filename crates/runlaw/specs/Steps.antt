@@ -52,7 +52,7 @@ red lasted arrears = record { light = light.Red; age = 7; length = 60; lasted = 
 abbrev pub red_of_nine : (arrears : ℕ) → Meter
 red_of_nine arrears = record { light = light.Red; age = 7; length = 9; lasted = 1; arrears = arrears }
 
--- metering in the second of a window flash, in the first second of a reference cycle of 60 seconds
+-- metering in this second of a window flash, in the first second of a reference cycle of 60 seconds
 abbrev pub flash : (second arrears : ℕ) → Stage
 flash second arrears = stage.Metering (record { light = light.Flash; age = second; length = 60; lasted = 1; arrears = arrears })
 
@@ -139,7 +139,7 @@ pub record WorkedSteps : Type 0 where
   pub service_ends : (f : Sheet) → f.draft.service_minutes ≡ 15 → wanted_after f Local true false false 900 ≡ false
   -- metering begins with a reference cycle and one in arrears
   pub first_cycle : clocked 60 started ≡ record { light = light.Red; age = 0; length = 60; lasted = 1; arrears = 1 }
-  -- a reference cycle of 60 in its 59th second goes on, whatever cycle is set; in its 60th the next begins, with one more in arrears, of at most 60,000
+  -- a reference cycle of 60 that has lasted 59 seconds goes on, though a cycle of 9 is set; after 60 the next begins, with one more in arrears, of at most 60,000
   pub cycle_goes_on : clocked 9 (red 59 3) ≡ red 60 3
   pub cycle_ends : clocked 9 (red 60 3) ≡ red_of_nine 4
   pub most_arrears : clocked 9 (red 60 60000) ≡ red_of_nine 60000
@@ -149,8 +149,8 @@ pub record WorkedSteps : Type 0 where
   pub draining_second : red_step false true true true (red 1 3) ≡ stage.Draining
   pub opening_third : red_step false true false true (red 1 3) ≡ flash 1 2
   pub no_opening : red_step false true false false (red 1 3) ≡ stage.Metering (record { light = light.Red; age = 8; length = 60; lasted = 1; arrears = 3 })
-  -- draining begins with an under-count of 0, and keeps it from then on
-  pub draining_begins : under_at (flash 1 2) stage.Draining 13 ≡ 0
+  -- draining begins with an under-count of 0, which counts from then on
+  pub draining_begins : under_at (stage.Metering (red 1 3)) stage.Draining 13 ≡ 0
   pub draining_goes_on : under_at stage.Draining stage.Draining 13 ≡ 13
   -- a second of a window flash is an opening if it is the first; the opening in the second of a close is the next record's first
   pub opening_counted : counts_after false (flash 1 2) (counted 598 2 7 100) ≡ counted 599 2 8 101

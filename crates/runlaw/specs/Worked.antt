@@ -1,10 +1,10 @@
 -- Worked figures of the rules.
-use Rattle.std.specs.Prelude.{◌≡◌, ℕ, true, false, List, [], Some, None, Ok, Err, codes, Result}
+use Rattle.std.specs.Prelude.{◌≡◌, ℕ, true, false, List, [], Some, None, Ok, Err, codes, Option, Result}
 use Rattle.sheet.specs.declared.sheet.Sheet.{Sheet}
 use Rattle.strategy.specs.declared.alinea.Alinea.{Alinea}
 use Rattle.strategy.specs.declared.measure.Measure.{Measure}
-use Rattle.strategy.specs.Alinea.{flow_after, cycle_of_flow}
-use Rattle.strategy.specs.Limiter.{own_after}
+use Rattle.strategy.specs.declared.limiter.Limiter.{Limiter}
+use Rattle.strategy.specs.Meanings.{alinea_meaning, limited_meaning}
 use Rattle.loops.specs.declared.lane.LaneTally.{LaneTally}
 use Rattle.loops.specs.Rules.{is_valid, interval_occupancy}
 use Rattle.orders.specs.Worked.{WorkedLines}
@@ -17,6 +17,14 @@ use Rattle.control.specs.Model.{Model}
 -- a measure with this occupancy, whatever the flow
 abbrev pub occupied : ℕ → ℕ → Measure
 occupied flow o = record { flow = flow; occupancy_permille = o }
+
+-- an ALINEA with gain 70, critical occupancy 200 and limits 30 and 900, at this flow
+pub record Steers (a : Alinea) (q : ℕ) : Type 0 where
+  pub flow : a.flow_tenths ≡ q
+  pub gain : a.gain ≡ 70
+  pub critical : a.critical_occupancy ≡ 200
+  pub lowest : a.lowest_flow ≡ 30
+  pub highest : a.highest_flow ≡ 900
 
 -- the sums of an interval with all readings in range
 abbrev pub interval : (seen sound : ℕ) → LaneTally
@@ -32,17 +40,17 @@ told (Ok reply) = Ok reply
 told (Err e) = Err (telling_of e)
 
 pub record WorkedFigures : Type 0 where
-  -- gain 70, critical occupancy 200, limits 30 and 900: from 6,000 tenths, occupancy 230 gives 3,900 and a cycle of 10
-  pub flow_at_230 : (flow : ℕ) → flow_after 70 200 30 900 6000 (Some (occupied flow 230)) ≡ 3900
-  pub cycle_of_3900 : cycle_of_flow 3900 ≡ 10
+  -- from 6,000 tenths, occupancy 230 gives 3,900 and a cycle of 10
+  pub flow_at_230 : (a : Alinea) (minute flow : ℕ) → Steers a 6000 → (alinea_meaning.next a minute (Some (occupied flow 230))).flow_tenths ≡ 3900
+  pub cycle_of_3900 : (a : Alinea) → a.flow_tenths ≡ 3900 → alinea_meaning.cycle a ≡ 10
   -- occupancy 0 gives 9,000 and a cycle of 4
-  pub flow_at_0 : (flow : ℕ) → flow_after 70 200 30 900 6000 (Some (occupied flow 0)) ≡ 9000
-  pub cycle_of_9000 : cycle_of_flow 9000 ≡ 4
+  pub flow_at_0 : (a : Alinea) (minute flow : ℕ) → Steers a 6000 → (alinea_meaning.next a minute (Some (occupied flow 0))).flow_tenths ≡ 9000
+  pub cycle_of_9000 : (a : Alinea) → a.flow_tenths ≡ 9000 → alinea_meaning.cycle a ≡ 4
   -- from 300, occupancy 1,000 gives 300 and a cycle of 120
-  pub flow_at_1000 : (flow : ℕ) → flow_after 70 200 30 900 300 (Some (occupied flow 1000)) ≡ 300
-  pub cycle_of_300 : cycle_of_flow 300 ≡ 120
-  -- a limiter at 6 with step 10 over a cycle of 120 goes to 16
-  pub limited : own_after 6 10 120 ≡ 16
+  pub flow_at_1000 : (a : Alinea) (minute flow : ℕ) → Steers a 300 → (alinea_meaning.next a minute (Some (occupied flow 1000))).flow_tenths ≡ 300
+  pub cycle_of_300 : (a : Alinea) → a.flow_tenths ≡ 300 → alinea_meaning.cycle a ≡ 120
+  -- a limiter at 6 with step 10 is told, and the cycle below is then 120: it goes to 16
+  pub limited : (l : Limiter Alinea) (minute : ℕ) (m : Option Measure) → l.own ≡ 6 → l.step ≡ 10 → alinea_meaning.cycle (alinea_meaning.next l.below minute m) ≡ 120 → (limited_meaning alinea_meaning).cycle ((limited_meaning alinea_meaning).next l minute m) ≡ 16
   -- availability 80, 5 seen: 4 sound are too few, 5 are enough
   pub sound_4_of_5 : is_valid 80 (interval 5 4) ≡ false
   pub sound_5_of_5 : is_valid 80 (interval 5 5) ≡ true
