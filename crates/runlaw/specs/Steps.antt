@@ -28,7 +28,9 @@ use Rattle.control.specs.declared.state.Queue.{Queue}
 use Rattle.control.specs.Figures.{JC}
 use Rattle.control.specs.Fresh.{fresh}
 use Rattle.control.specs.Lines.{line_answer, reply_of, reset_answer, after_reset, telling_of}
-use Rattle.control.specs.Metering.{started, clocked, red_step}
+use Rattle.control.specs.declared.stage.Conditions.{Conditions}
+use Rattle.control.specs.Metering.{started, clocked, lit, red_step, light_step}
+use Rattle.control.specs.Steps.{stepped}
 use Rattle.control.specs.Model.{Model, Given}
 use Rattle.control.specs.Seconds.{minute_of, counted_to, queue_after, in_calendar, wanted_after, under_at, counts_after}
 use Rattle.control.specs.Trips.{trip_of}
@@ -76,6 +78,23 @@ tripped shows =
       is_cut = true;
       shows = shows;
     }
+
+-- a sheet with these times and these figures of the queue
+pub record Timed (f : Sheet) : Type 0 where
+  pub opening_flash : f.draft.opening_flash ≡ 30
+  pub opening_red : f.draft.opening_red ≡ 2
+  pub closing_flash : f.draft.closing_flash ≡ 6
+  pub window_flash : f.draft.window_flash ≡ 3
+  pub window_amber : f.draft.window_amber ≡ 4
+  pub minimum_red : f.draft.minimum_red ≡ 7
+  pub queue_full : f.draft.queue_full ≡ 400
+  pub queue_full_seconds : f.draft.queue_full_seconds ≡ 20
+  pub queue_cleared : f.draft.queue_cleared ≡ 100
+  pub queue_cleared_seconds : f.draft.queue_cleared_seconds ≡ 30
+
+-- what a second meets: metering wanted, queue full, queue cleared, a vehicle at the line
+abbrev pub met : (wanted full cleared presence : Bool) → Conditions
+met wanted full cleared presence = record { wanted = wanted; full = full; cleared = cleared; presence = presence; length = 60 }
 
 pub record WorkedSteps : Type 0 where
   -- a step limiter at 20 with step 10 over a cycle of 4 goes to 10; cycles of 3 and of 121 are drawn to 4 and 120
@@ -149,6 +168,36 @@ pub record WorkedSteps : Type 0 where
   pub draining_second : red_step false true true true (red 1 3) ≡ stage.Draining
   pub opening_third : red_step false true false true (red 1 3) ≡ flash 1 2
   pub no_opening : red_step false true false false (red 1 3) ≡ stage.Metering (record { light = light.Red; age = 8; length = 60; lasted = 1; arrears = 3 })
+  -- opening flash of 30 seconds, opening amber of 5, opening red of 2, closing of 6: the last second but one, and what comes after the last
+  pub flash_29 : (f : Sheet) (c : Conditions) → Timed f → stepped f c (stage.OpeningFlash 29) ≡ stage.OpeningFlash 30
+  pub flash_30 : (f : Sheet) (c : Conditions) → Timed f → stepped f c (stage.OpeningFlash 30) ≡ stage.OpeningAmber 1
+  pub amber_4 : (f : Sheet) (c : Conditions) → stepped f c (stage.OpeningAmber 4) ≡ stage.OpeningAmber 5
+  pub amber_5 : (f : Sheet) (c : Conditions) → stepped f c (stage.OpeningAmber 5) ≡ stage.OpeningRed 1
+  pub red_1 : (f : Sheet) (c : Conditions) → Timed f → stepped f c (stage.OpeningRed 1) ≡ stage.OpeningRed 2
+  pub red_2 : (f : Sheet) (c : Conditions) → Timed f → c.wanted ≡ false → stepped f c (stage.OpeningRed 2) ≡ stage.Closing 1
+  pub closing_5 : (f : Sheet) (c : Conditions) → Timed f → stepped f c (stage.Closing 5) ≡ stage.Closing 6
+  pub closing_6 : (f : Sheet) (c : Conditions) → Timed f → stepped f c (stage.Closing 6) ≡ stage.Standby
+  -- standby waits until it is wanted; draining closes when it is not, and opens again with amber when the queue is cleared
+  pub standby_waits : (f : Sheet) → stepped f (met false true true true) stage.Standby ≡ stage.Standby
+  pub standby_opens : (f : Sheet) → stepped f (met true false false false) stage.Standby ≡ stage.OpeningFlash 1
+  pub draining_closes : (f : Sheet) → stepped f (met false true true true) stage.Draining ≡ stage.Closing 1
+  pub draining_waits : (f : Sheet) → stepped f (met true true false true) stage.Draining ≡ stage.Draining
+  pub draining_ends : (f : Sheet) → stepped f (met true false true true) stage.Draining ≡ stage.OpeningAmber 1
+  -- window flash of 3 seconds and window amber of 4
+  pub window_flash_2 : (f : Sheet) (c : Conditions) → Timed f → light_step f c light.Flash (lit light.Flash 2 2 (red 1 3)) ≡ stage.Metering (lit light.Flash 3 2 (red 1 3))
+  pub window_flash_3 : (f : Sheet) (c : Conditions) → Timed f → light_step f c light.Flash (lit light.Flash 3 2 (red 1 3)) ≡ stage.Metering (lit light.Amber 1 2 (red 1 3))
+  pub window_amber_3 : (f : Sheet) (c : Conditions) → Timed f → light_step f c light.Amber (lit light.Amber 3 2 (red 1 3)) ≡ stage.Metering (lit light.Amber 4 2 (red 1 3))
+  pub window_amber_4 : (f : Sheet) (c : Conditions) → Timed f → light_step f c light.Amber (lit light.Amber 4 2 (red 1 3)) ≡ stage.Metering (lit light.Red 1 2 (red 1 3))
+  -- a minimum red of 7 seconds, with a vehicle at the line and one in arrears: red of age 6 stays, red of age 7 opens; without one in arrears it stays
+  pub red_of_6 : (f : Sheet) → Timed f → light_step f (met true false false true) light.Red (lit light.Red 6 1 (red 1 3)) ≡ stage.Metering (lit light.Red 7 1 (red 1 3))
+  pub red_of_7 : (f : Sheet) → Timed f → light_step f (met true false false true) light.Red (lit light.Red 7 1 (red 1 3)) ≡ stage.Metering (lit light.Flash 1 0 (red 1 3))
+  pub red_without_arrears : (f : Sheet) → Timed f → light_step f (met true false false true) light.Red (lit light.Red 7 0 (red 1 3)) ≡ stage.Metering (lit light.Red 8 0 (red 1 3))
+  pub red_without_vehicle : (f : Sheet) → Timed f → light_step f (met true false false false) light.Red (lit light.Red 7 1 (red 1 3)) ≡ stage.Metering (lit light.Red 8 1 (red 1 3))
+  -- a full queue is above 400, a cleared one below 100: the reading at the figure counts for neither
+  pub at_the_full : (f : Sheet) → Timed f → (queue_after f 400 (record { over = 7; under = 7 })).over ≡ 0
+  pub above_the_full : (f : Sheet) → Timed f → (queue_after f 401 (record { over = 7; under = 7 })).over ≡ 8
+  pub at_the_cleared : (f : Sheet) → Timed f → (queue_after f 100 (record { over = 7; under = 7 })).under ≡ 0
+  pub below_the_cleared : (f : Sheet) → Timed f → (queue_after f 99 (record { over = 7; under = 7 })).under ≡ 8
   -- draining begins with an under-count of 0, which counts from then on
   pub draining_begins : under_at (stage.Metering (red 1 3)) stage.Draining 13 ≡ 0
   pub draining_goes_on : under_at stage.Draining stage.Draining 13 ≡ 13

@@ -1,9 +1,15 @@
-use Rattle.std.specs.Prelude.{ℕ, ◌≡◌, ◌<◌, ◌+◌, ◌*◌, [], ◌∷◌, ◌++◌, true, false, codes, decimal, nat_lt}
-use Rattle.std.proofs.Common.{refl, arith}
+use Rattle.std.specs.Prelude.{ℕ, ◌≡◌, ◌<◌, ◌+◌, ◌*◌, [], ◌∷◌, ◌++◌, true, false, cond, codes, decimal, nat_lt}
+use Rattle.std.proofs.Common.{refl, arith, ap, ◌∙◌}
 use Rattle.std.proofs.Math.Path.{subst⁻¹}
 use Rattle.std.proofs.lemmas.Fmt.{decimal_digit}
 use Rattle.orders.specs.Lines.{lines}
 use Rattle.orders.specs.Tokens.{tokens_from}
+use Rattle.control.specs.declared.stage.Light.TheVariants as light
+use Rattle.control.specs.declared.stage.Stage.TheVariants as stage
+use Rattle.control.specs.Figures.{t1, t2}
+use Rattle.control.specs.Metering.{started, lit, flash_step, amber_step, red_step, metered}
+use Rattle.control.specs.Seconds.{counted_to}
+use Rattle.runlaw.specs.Steps.{red}
 use Rattle.runlaw.proofs.worked.worked_steps_hold.Goals as goal
 
 -- what the reading of the cycles is with two numbers of one digit
@@ -69,6 +75,31 @@ returns c =
       draining_second = refl;
       opening_third = refl;
       no_opening = refl;
+      flash_29 = λ f c t. subst⁻¹ (λ x. cond (nat_lt 29 x) (stage.OpeningFlash 30) (stage.OpeningAmber 1) ≡ stage.OpeningFlash 30) t.opening_flash refl;
+      flash_30 = λ f c t. subst⁻¹ (λ x. cond (nat_lt 30 x) (stage.OpeningFlash 31) (stage.OpeningAmber 1) ≡ stage.OpeningAmber 1) t.opening_flash refl;
+      amber_4 = λ f c. refl;
+      amber_5 = λ f c. refl;
+      red_1 = λ f c t. subst⁻¹ (λ x. cond (nat_lt 1 x) (stage.OpeningRed 2) (cond c.wanted (metered f c started) (stage.Closing 1)) ≡ stage.OpeningRed 2) t.opening_red refl;
+      red_2 = λ f c t no. subst⁻¹ (λ x. cond (nat_lt 2 x) (stage.OpeningRed 3) (cond c.wanted (metered f c started) (stage.Closing 1)) ≡ stage.Closing 1) t.opening_red (subst⁻¹ (λ b. cond b (metered f c started) (stage.Closing 1) ≡ stage.Closing 1) no refl);
+      closing_5 = λ f c t. subst⁻¹ (λ x. cond (nat_lt 5 x) (stage.Closing 6) stage.Standby ≡ stage.Closing 6) t.closing_flash refl;
+      closing_6 = λ f c t. subst⁻¹ (λ x. cond (nat_lt 6 x) (stage.Closing 7) stage.Standby ≡ stage.Standby) t.closing_flash refl;
+      standby_waits = λ f. refl;
+      standby_opens = λ f. refl;
+      draining_closes = λ f. refl;
+      draining_waits = λ f. refl;
+      draining_ends = λ f. refl;
+      window_flash_2 = λ f c t. ap (λ x. flash_step (nat_lt 2 x) (lit light.Flash 2 2 (red 1 3))) t.window_flash;
+      window_flash_3 = λ f c t. ap (λ x. flash_step (nat_lt 3 x) (lit light.Flash 3 2 (red 1 3))) t.window_flash;
+      window_amber_3 = λ f c t. ap (λ x. amber_step (nat_lt 3 x) (lit light.Amber 3 2 (red 1 3))) t.window_amber;
+      window_amber_4 = λ f c t. ap (λ x. amber_step (nat_lt 4 x) (lit light.Amber 4 2 (red 1 3))) t.window_amber;
+      red_of_6 = λ f t. ap (λ x. red_step (nat_lt 6 x) true false true (lit light.Red 6 1 (red 1 3))) t.minimum_red;
+      red_of_7 = λ f t. ap (λ x. red_step (nat_lt 7 x) true false true (lit light.Red 7 1 (red 1 3))) t.minimum_red;
+      red_without_arrears = λ f t. ap (λ x. red_step (nat_lt 7 x) true false false (lit light.Red 7 0 (red 1 3))) t.minimum_red;
+      red_without_vehicle = λ f t. ap (λ x. red_step (nat_lt 7 x) true false false (lit light.Red 7 1 (red 1 3))) t.minimum_red;
+      at_the_full = λ f t. ap (λ x. counted_to (t1 f) (nat_lt x 400) 7) t.queue_full;
+      above_the_full = λ f t. ap (λ x. counted_to (t1 f) (nat_lt x 401) 7) t.queue_full ∙ ap (λ x. counted_to x true 7) t.queue_full_seconds;
+      at_the_cleared = λ f t. ap (λ x. counted_to (t2 f) (nat_lt 100 x) 7) t.queue_cleared;
+      below_the_cleared = λ f t. ap (λ x. counted_to (t2 f) (nat_lt 99 x) 7) t.queue_cleared ∙ ap (λ x. counted_to x true 7) t.queue_cleared_seconds;
       draining_begins = refl;
       draining_goes_on = refl;
       opening_counted = refl;
