@@ -2,9 +2,11 @@
 use Rattle.std.specs.Prelude.{◌≡◌, ℕ, true, false, Bool, List, [], ◌∷◌, Some, None, Ok, Err, codes}
 use Rattle.sheet.specs.declared.sheet.Sheet.{Sheet}
 use Rattle.sheet.specs.declared.calendar.MinuteRange.{MinuteRange}
+use Rattle.strategy.specs.declared.alinea.Alinea.{Alinea}
 use Rattle.strategy.specs.Drawn.{drawn_cycle}
 use Rattle.strategy.specs.Hourly.{hour_of}
 use Rattle.strategy.specs.Limiter.{own_after}
+use Rattle.strategy.specs.Meanings.{alinea_meaning}
 use Rattle.loops.specs.declared.reading.LaneReading.{LaneReading}
 use Rattle.loops.specs.Rules.{in_range as reading_in_range, told_of, is_plausible}
 use Rattle.lamps.specs.declared.colour.Colour.TheVariants as colour
@@ -32,7 +34,7 @@ use Rattle.control.specs.declared.stage.Conditions.{Conditions}
 use Rattle.control.specs.Metering.{started, clocked, lit, red_step, light_step}
 use Rattle.control.specs.Steps.{stepped}
 use Rattle.control.specs.Model.{Model, Given}
-use Rattle.control.specs.Seconds.{minute_of, counted_to, queue_after, in_calendar, wanted_after, under_at, counts_after}
+use Rattle.control.specs.Seconds.{minute_of, counted_to, queue_after, in_calendar, wanted_after, under_at, counts_after, conditions}
 use Rattle.control.specs.Trips.{trip_of}
 use Rattle.runlaw.specs.Worked.{told}
 
@@ -91,6 +93,25 @@ pub record Timed (f : Sheet) : Type 0 where
   pub queue_full_seconds : f.draft.queue_full_seconds ≡ 20
   pub queue_cleared : f.draft.queue_cleared ≡ 100
   pub queue_cleared_seconds : f.draft.queue_cleared_seconds ≡ 30
+
+-- a fresh station but for these counts of the queue
+abbrev pub queued : Alinea → (over under : ℕ) → (ℕ → ℕ) → Model Alinea
+queued a over under shows =
+    record {
+      strategy = a;
+      readings = [];
+      command = record { mode = Local; wanted = false; centre_cycle = None };
+      queue = record { over = over; under = under };
+      counts = counted 0 0 0 0;
+      stage = stage.Standby;
+      colour = colour.Dark;
+      is_cut = false;
+      shows = shows;
+    }
+
+-- a second with this reading of the queue loop
+abbrev pub queue_reads : ℕ → Given
+queue_reads reading = record { presence = false; queue = reading; word = 0; minute = 0; calendar = []; lanes = [] }
 
 -- what a second meets: metering wanted, queue full, queue cleared, a vehicle at the line
 abbrev pub met : (wanted full cleared presence : Bool) → Conditions
@@ -198,6 +219,11 @@ pub record WorkedSteps : Type 0 where
   pub above_the_full : (f : Sheet) → Timed f → (queue_after f 401 (record { over = 7; under = 7 })).over ≡ 8
   pub at_the_cleared : (f : Sheet) → Timed f → (queue_after f 100 (record { over = 7; under = 7 })).under ≡ 0
   pub below_the_cleared : (f : Sheet) → Timed f → (queue_after f 99 (record { over = 7; under = 7 })).under ≡ 8
+  -- a full queue: the 20th second above 400 makes it full, the 19th does not; cleared in the 30th second below 100
+  pub full_in_20 : (a : Alinea) (f : Sheet) (shows : ℕ → ℕ) → Timed f → (conditions alinea_meaning f (queued a 19 0 shows) (queue_reads 401)).full ≡ true
+  pub not_full_in_19 : (a : Alinea) (f : Sheet) (shows : ℕ → ℕ) → Timed f → (conditions alinea_meaning f (queued a 18 0 shows) (queue_reads 401)).full ≡ false
+  pub cleared_in_30 : (a : Alinea) (f : Sheet) (shows : ℕ → ℕ) → Timed f → (conditions alinea_meaning f (queued a 0 29 shows) (queue_reads 99)).cleared ≡ true
+  pub not_cleared_in_29 : (a : Alinea) (f : Sheet) (shows : ℕ → ℕ) → Timed f → (conditions alinea_meaning f (queued a 0 28 shows) (queue_reads 99)).cleared ≡ false
   -- draining begins with an under-count of 0, which counts from then on
   pub draining_begins : under_at (stage.Metering (red 1 3)) stage.Draining 13 ≡ 0
   pub draining_goes_on : under_at stage.Draining stage.Draining 13 ≡ 13

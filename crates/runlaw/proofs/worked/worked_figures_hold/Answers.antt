@@ -31,8 +31,8 @@ returns c =
       flow_at_1000 = λ a minute flow h. flow_then a 300 minute (Some (occupied flow 1000)) h;
       cycle_of_300 = λ a e. ap cycle_of_flow e;
       limited = λ l minute m own step below.
-        ap (λ n. own_after n l.step (alinea_meaning.cycle (alinea_meaning.next l.below minute m))) own ∙
-        ap (λ n. own_after 6 n (alinea_meaning.cycle (alinea_meaning.next l.below minute m))) step ∙ ap (own_after 6 10) below;
+          ap (λ n. own_after n l.step (alinea_meaning.cycle (alinea_meaning.next l.below minute m))) own ∙
+          ap (λ n. own_after 6 n (alinea_meaning.cycle (alinea_meaning.next l.below minute m))) step ∙ ap (own_after 6 10) below;
       sound_4_of_5 = refl;
       sound_5_of_5 = refl;
       occupancy = refl;

@@ -1,4 +1,4 @@
-use Rattle.std.specs.Prelude.{ℕ, ◌≡◌, ◌<◌, ◌+◌, ◌*◌, [], ◌∷◌, ◌++◌, true, false, cond, codes, decimal, nat_lt}
+use Rattle.std.specs.Prelude.{ℕ, ◌≡◌, ◌<◌, ◌+◌, ◌*◌, [], ◌∷◌, ◌++◌, true, false, cond, codes, decimal, nat_le, nat_lt}
 use Rattle.std.proofs.Common.{refl, arith, ap, ◌∙◌}
 use Rattle.std.proofs.Math.Path.{subst⁻¹}
 use Rattle.std.proofs.lemmas.Fmt.{decimal_digit}
@@ -100,6 +100,10 @@ returns c =
       above_the_full = λ f t. ap (λ x. counted_to (t1 f) (nat_lt x 401) 7) t.queue_full ∙ ap (λ x. counted_to x true 7) t.queue_full_seconds;
       at_the_cleared = λ f t. ap (λ x. counted_to (t2 f) (nat_lt 100 x) 7) t.queue_cleared;
       below_the_cleared = λ f t. ap (λ x. counted_to (t2 f) (nat_lt 99 x) 7) t.queue_cleared ∙ ap (λ x. counted_to x true 7) t.queue_cleared_seconds;
+      full_in_20 = λ a f shows t. ap (λ x. nat_le (t1 f) (counted_to (t1 f) (nat_lt x 401) 19)) t.queue_full ∙ ap (λ x. nat_le x (counted_to x true 19)) t.queue_full_seconds;
+      not_full_in_19 = λ a f shows t. ap (λ x. nat_le (t1 f) (counted_to (t1 f) (nat_lt x 401) 18)) t.queue_full ∙ ap (λ x. nat_le x (counted_to x true 18)) t.queue_full_seconds;
+      cleared_in_30 = λ a f shows t. ap (λ x. nat_le (t2 f) (counted_to (t2 f) (nat_lt 99 x) 29)) t.queue_cleared ∙ ap (λ x. nat_le x (counted_to x true 29)) t.queue_cleared_seconds;
+      not_cleared_in_29 = λ a f shows t. ap (λ x. nat_le (t2 f) (counted_to (t2 f) (nat_lt 99 x) 28)) t.queue_cleared ∙ ap (λ x. nat_le x (counted_to x true 28)) t.queue_cleared_seconds;
       draining_begins = refl;
       draining_goes_on = refl;
       opening_counted = refl;
