@@ -30,7 +30,7 @@ lowest_placed ls fs d o el ef e =
 -- a check answers whether there is a cause
 pub no_cause : (o : Option Cause) → Ok tt ≡ checked o → is_some o ≡ false
 no_cause None e = refl
-no_cause (Some c) e = absurd (let z : ◌≡◌ {A = ℕ} 0 1 = cc in omega arith)
+no_cause (Some c) e = absurd cc
 
 -- a check of the limits that refuses is the answer, and otherwise the pairs give it
 pub limits_refuse : (d : Draft) (c : Cause) → Err c ≡ checked (cause_of_limits d) → Err c ≡ checked (cause_of d)
@@ -38,13 +38,13 @@ unfolding cause_of
 limits_refuse d c e = from (lowest_outside 1 limits (figures_of d)) e where
   from : (o : Option ℕ) → Err c ≡ checked (option_map OutsideLimits o) → Err c ≡ checked (cause_from o (cause_of_pairs d))
   from (Some k) h = h
-  from None h = absurd (let z : ◌≡◌ {A = ℕ} 0 1 = cc in omega arith)
+  from None h = absurd cc
 
 pub limits_pass : (d : Draft) → Ok tt ≡ checked (cause_of_limits d) → checked (cause_of_pairs d) ≡ checked (cause_of d)
 unfolding cause_of
 limits_pass d e = from (lowest_outside 1 limits (figures_of d)) e where
   from : (o : Option ℕ) → Ok tt ≡ checked (option_map OutsideLimits o) → checked (cause_of_pairs d) ≡ checked (cause_from o (cause_of_pairs d))
-  from (Some k) h = absurd (let z : ◌≡◌ {A = ℕ} 0 1 = cc in omega arith)
+  from (Some k) h = absurd cc
   from None h = refl
 
 -- each figure lies within its limits, and Q holds
@@ -68,7 +68,7 @@ within_then n (l ∷ ls) (f ∷ fs) Q q e =
     ((h.0, h.1), within_then (n + 1) ls fs Q q h.2)
 
 from_figures : (o : Option ℕ) (c : Option Cause) → is_some (cause_from o c) ≡ false → (is_some o ≡ false) × (is_some c ≡ false)
-from_figures (Some k) c e = absurd (let z : ◌≡◌ {A = ℕ} 0 1 = cc in omega arith)
+from_figures (Some k) c e = absurd cc
 from_figures None c e = (refl, e)
 
 -- what the causes that compare figures leave to an accepted draft

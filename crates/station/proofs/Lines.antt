@@ -1,5 +1,5 @@
 -- A command line: what its answer says of the order and the buffer, and that a history goes on by it.
-use Rattle.std.proofs.Common.{◌≡◌, ℕ, List, [], ◌∷◌, length, drop, Ok, Err, Result, sym, refl, ap, ◌∙◌, subst, arith}
+use Rattle.std.proofs.Common.{◌≡◌, ℕ, List, [], ◌∷◌, length, drop, Ok, Err, Result, sym, refl, ap, ◌∙◌, subst}
 use Rattle.std.proofs.lemmas.List.{take_at}
 use Rattle.sheet.specs.declared.sheet.Sheet.{Sheet}
 use Rattle.strategy.specs.declared.strategy.Strategy.{Ghosts as StrategyMeaning}
@@ -26,13 +26,13 @@ replied_is (Err e) buffer = refl
 taken_is :
     (v : Result Order OrderFault) (a : Result (List ℕ) Refused) (o : Order) (n : ℕ) → Ok (o, n) ≡ taken_with v a →
     (reply : List ℕ) × (v ≡ Ok o) × (a ≡ Ok reply) × (n ≡ length reply)
-taken_is (Err f) a o n e = absurd (let z : ◌≡◌ {A = ℕ} 0 1 = cc in omega arith)
-taken_is (Ok p) (Err x) o n e = absurd (let z : ◌≡◌ {A = ℕ} 0 1 = cc in omega arith)
+taken_is (Err f) a o n e = absurd cc
+taken_is (Ok p) (Err x) o n e = absurd cc
 taken_is (Ok p) (Ok reply) o n e = let same : ◌≡◌ {A = Order × ℕ} (p, length reply) (o, n) = cc in (reply, ap (λ x. Ok x.0) same, refl, ap (λ x. x.1) (sym same))
 
 -- a line that is refused answers the refusal
 refused_by_lem : (a : Result (List ℕ) Refused) (o : Order) (e : Refused) → Err e ≡ taken_with (Ok o) a → a ≡ Err e
-refused_by_lem (Ok reply) o e h = absurd (let z : ◌≡◌ {A = ℕ} 0 1 = cc in omega arith)
+refused_by_lem (Ok reply) o e h = absurd cc
 refused_by_lem (Err x) o e h = cc
 
 refused_is :
