@@ -32,16 +32,8 @@ relay_code = record { shows = relay_set; within = relay_within; every = relay_ev
 abbrev pub current_code : CodeMeaning CurrentCode
 current_code = record { shows = current_set; within = current_within; every = current_every }
 
--- a new relay head is dark, and not cut
-abbrev pub new_relay : CodedHead RelayCode
-new_relay = new_head
-
 abbrev pub relay_meaning : HeadMeaning (CodedHead RelayCode)
 relay_meaning = coded_meaning relay_code
-
--- a new current head is dark, and not cut
-abbrev pub new_current : CodedHead CurrentCode
-new_current = new_head
 
 abbrev pub current_meaning : HeadMeaning (CodedHead CurrentCode)
 current_meaning = coded_meaning current_code
