@@ -1,5 +1,5 @@
 -- Command lines and breaker resets: what they answer, and what they make of the station.
-use Rattle.std.specs.Prelude.{ℕ, Bool, true, false, cond, List, [], ◌∷◌, ◌++◌, length, drop, Some, None, Ok, Err, codes, decimal, Option, Result, nat_lt}
+use Rattle.std.specs.Prelude.{ℕ, Bool, true, false, cond, List, [], ◌++◌, length, drop, Some, None, Ok, Err, Option, Result, nat_lt}
 use Rattle.sheet.specs.declared.sheet.Sheet.{Sheet}
 use Rattle.lamps.specs.declared.colour.Colour.TheVariants as colour
 use Rattle.orders.specs.declared.order.Order.{Order}
@@ -8,6 +8,7 @@ use Rattle.orders.specs.declared.fault.OrderFault.{OrderFault}
 use Rattle.orders.specs.declared.fault.Refusal.{Refusal}
 use Rattle.orders.specs.Orders.{order_of}
 use Rattle.orders.specs.Faults.{refusal_of}
+use Rattle.reply.specs.Replies.{status_text, cycles_text}
 use Rattle.control.specs.declared.answer.Refused.{Refused}
 use Rattle.control.specs.declared.answer.Refused.TheVariants as refused
 use Rattle.control.specs.declared.stage.Stage.{Stage}
@@ -72,8 +73,8 @@ reply_of f s order.Central = []
 reply_of f s order.Local = []
 reply_of f s (order.Cycle n) = []
 reply_of f s order.Off = []
-reply_of f s order.Status = status_letter s ∷ []
-reply_of f s order.Cycles = codes "AM=F.1 CY=" ++ (decimal (running_cycle s) ++ (codes " JC=" ++ decimal (JC f)))
+reply_of f s order.Status = status_text (status_letter s)
+reply_of f s order.Cycles = cycles_text (running_cycle s) (JC f)
 
 -- a reply has to fit the buffer
 abbrev pub fitted : (room : ℕ) → List ℕ → Result (List ℕ) Refused
@@ -83,18 +84,14 @@ abbrev pub answered_by : (room : ℕ) → Option Refused → List ℕ → Result
 answered_by room (Some e) reply = Err e
 answered_by room None reply = fitted room reply
 
--- what a line answers: its reply, or the first of the causes in the table's order
-abbrev pub line_answer_by : {S : Type 0} → Sheet → Model S → (room : ℕ) → Result Order OrderFault → Result (List ℕ) Refused
-line_answer_by f m room (Err e) = Err (refused.Order e)
-line_answer_by f m room (Ok o) = answered_by room (refused_by (is_tripped m.stage) m.command.mode o) (reply_of f m.stage o)
-
-abbrev pub line_answer : {S : Type 0} → Sheet → Model S → (line : List ℕ) (room : ℕ) → Result (List ℕ) Refused
-line_answer f m line room = line_answer_by f m room (order_of line)
-
--- the same of a station's stage and mode
+-- what a line is answered at this stage and in this mode: its reply, or the first of the causes in the table's order
 abbrev pub answer_to : Sheet → Stage → Mode → (room : ℕ) → Result Order OrderFault → Result (List ℕ) Refused
 answer_to f s mode room (Err e) = Err (refused.Order e)
 answer_to f s mode room (Ok o) = answered_by room (refused_by (is_tripped s) mode o) (reply_of f s o)
+
+-- the same of a whole station
+abbrev pub line_answer : {S : Type 0} → Sheet → Model S → (line : List ℕ) (room : ℕ) → Result (List ℕ) Refused
+line_answer f m line room = answer_to f m.stage m.command.mode room (order_of line)
 
 -- the station with another command
 abbrev pub with_command : {S : Type 0} → Command → Model S → Model S
