@@ -13,6 +13,7 @@ use Rattle.lamps.specs.Orders.{colour_after}
 use Rattle.records.specs.Kept.{count_after}
 use Rattle.records.specs.declared.alarm.AlarmRecord.{AlarmRecord}
 use Rattle.records.specs.declared.period.PeriodRecord.{PeriodRecord}
+use Rattle.records.specs.declared.phase.Phase.{Phase}
 use Rattle.control.specs.declared.answer.Answer.{Answer}
 use Rattle.control.specs.declared.answer.Trip.{Trip}
 use Rattle.control.specs.declared.stage.Conditions.{Conditions}
@@ -145,6 +146,15 @@ is_dark colour.Red = false
 is_dark colour.FixedAmber = false
 is_dark colour.FlashingAmber = false
 
+-- the period record of a close: its number, minute, measure or none, the strategy's cycle, and the openings since the last record
+abbrev pub period_record_of : (minute cycle : ℕ) → Counts → Option Measure → PeriodRecord
+period_record_of minute cycle c measure =
+    record { number = count_after c.periods; minute = minute; measure = measure; cycle = cycle; openings = c.openings }
+
+-- the alarm record of a trip: the second number, its code and lamp, and the phase before
+abbrev pub alarm_record_of : Counts → Phase → Trip → AlarmRecord
+alarm_record_of c phase t = record { second = count_after c.seconds; code = t.code; lamp = t.lamp; phase = phase }
+
 module _ {S : Type 0} (st : StrategyMeaning S) (f : Sheet) (m : Model S) (g : Given) where
   -- step 2: unless it is tripped, the station trips if the lamps that are lit are not those of the head's colour
   abbrev pub trip_now : Option Trip
@@ -213,26 +223,10 @@ module _ {S : Type 0} (st : StrategyMeaning S) (f : Sheet) (m : Model S) (g : Gi
   abbrev pub answer : Answer
   answer = answer_by trip_now
 
-  -- the period record of a close: the strategy was told first, and openings of this second come into the next record
-  abbrev pub period_record : Option Measure → PeriodRecord
-  period_record measure =
-      record {
-        number = count_after m.counts.periods;
-        minute = minute_of g;
-        measure = measure;
-        cycle = st.cycle strategy_now;
-        openings = m.counts.openings;
-      }
-
-  -- the record that the second puts into the ring of periods, if it closes one
+  -- the record that the second puts into the ring of periods, if it closes one: the strategy was told first, and openings of this second come into the next
   abbrev pub period_put : Option PeriodRecord
-  period_put = option_map period_record close_now
-
-  -- the alarm record of a trip, with the phase before it
-  abbrev pub alarm_record : Trip → AlarmRecord
-  alarm_record t =
-      record { second = count_after m.counts.seconds; code = t.code; lamp = t.lamp; phase = phase_of m.stage }
+  period_put = option_map (period_record_of (minute_of g) (st.cycle strategy_now) m.counts) close_now
 
   -- the record that the second puts into the ring of alarms, if it trips
   abbrev pub alarm_put : Option AlarmRecord
-  alarm_put = option_map alarm_record trip_now
+  alarm_put = option_map (alarm_record_of m.counts (phase_of m.stage)) trip_now

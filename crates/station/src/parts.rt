@@ -4,10 +4,10 @@ ghost use Rattle.std.specs.Option.{option_map};
 ghost use Rattle.lamps.specs.Orders.{colour_after};
 ghost use Rattle.lamps.specs.declared.colour.Colour.TheVariants.{Dark};
 ghost use Rattle.control.specs.declared.stage.Stage.TheVariants.{Tripped};
-ghost use Rattle.control.specs.Seconds.{length_fixed, told_at};
+ghost use Rattle.control.specs.Seconds.{period_record_of, alarm_record_of, length_fixed, told_at};
 ghost use Rattle.control.specs.Steps.{stepped};
 ghost use Rattle.control.specs.Trips.{trip_of};
-ghost use Rattle.station.specs.Parts.{period_record_of, alarm_record_of, PutInto};
+ghost use Rattle.station.specs.Parts.{PutInto};
 
 use control::answer::Trip;
 use control::stage::{Conditions, Stage};

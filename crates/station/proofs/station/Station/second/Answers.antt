@@ -7,11 +7,11 @@ use Rattle.control.specs.declared.answer.Answer.{Answer}
 use Rattle.control.specs.declared.stage.Stage.TheVariants.{Tripped}
 use Rattle.control.specs.Figures.{loop_figures}
 use Rattle.control.specs.Phases.{phase_of, colour_of, is_tripped}
-use Rattle.control.specs.Seconds.{close_now, trip_now, strategy_now, queue_now, wanted_now, wanted_after, conditions, length_fixed, told_at, stage_by, head_by, under_at, counts_after, is_dark, period_put, alarm_put, readings_after}
+use Rattle.control.specs.Seconds.{close_now, trip_now, strategy_now, queue_now, wanted_now, wanted_after, conditions, length_fixed, told_at, stage_by, head_by, under_at, counts_after, is_dark, period_record_of, alarm_record_of, period_put, alarm_put, readings_after}
 use Rattle.control.specs.Steps.{stepped, begins}
 use Rattle.control.specs.Trips.{trip_of}
 use Rattle.station.specs.declared.station.Station.{Station}
-use Rattle.station.specs.Parts.{PutInto, period_record_of, alarm_record_of}
+use Rattle.station.specs.Parts.{PutInto}
 use Rattle.station.specs.Station.{model, Stands, SecondDone, given_by}
 use Rattle.station.proofs.Begins.{length_unused}
 use Rattle.station.proofs.Loops.{tallying}
