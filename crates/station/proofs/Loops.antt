@@ -1,5 +1,6 @@
 -- The station's loops: their figures are the sheet's, and a second closes a period where the rule says.
-use Rattle.std.proofs.Common.{◌≡◌, ℕ, ◌*◌, ◌<◌, ◌≤◌, Bool, true, false, cond, leb, List, [], ◌∷◌, ◌++◌, length, Some, None, Option, sym, refl, ap, ◌∙◌, subst, arith, leb-false, leb-true}
+use Rattle.std.proofs.Common.{◌≡◌, ℕ, ◌*◌, ◌<◌, true, false, cond, List, [], ◌∷◌, ◌++◌, length, Some, None, Option, sym, ap, ◌∙◌, subst, arith}
+use Rattle.std.proofs.lemmas.Bool.{le-leb, lt-leb}
 use mathlib.Core.HLevel.{is_prop→PathP}
 use native.Mathlib.Bridge.{le_prop}
 use Rattle.sheet.specs.declared.sheet.Sheet.{Sheet}
@@ -32,14 +33,6 @@ figures_same s f t = λ i.
       overcount_within = is_prop→PathP (λ j. Within 17 (t.overcount j)) (λ j. within_prop 17) f.overcount_within s.overcount_within i;
     }
 
-is_whole_lem : (n k : ℕ) (v : Bool) → leb n k ≡ v → n ≤ k → leb n k ≡ true
-is_whole_lem n k true e h = e
-is_whole_lem n k false e h = absurd (let l = leb-false n k e in omega arith)
-
-is_short : (n k : ℕ) (v : Bool) → leb n k ≡ v → k < n → leb n k ≡ false
-is_short n k false e h = e
-is_short n k true e h = absurd (let l = leb-true n k e in omega arith)
-
 -- what the loops are after a second, and what they closed with, in the words of the rules
 pub record Tallying (s : Sheet) (after : PeriodTally) (ss : List Second) (rs : Second) (r : Option (Option Measure)) : Type 0 where
   pub holds : Holds after (readings_after s ss rs)
@@ -51,7 +44,7 @@ pub tallying :
 tallying s after ss rs None e a =
     let long = ss ++ rs ∷ [] in
     let short : length long < period_seconds s = subst (λ (f : LoopFigures). length long < f.period_intervals * f.interval_seconds) e a.short in
-    let no : is_whole s long ≡ false = is_short (period_seconds s) (length long) (is_whole s long) refl short in
+    let no : is_whole s long ≡ false = lt-leb (period_seconds s) (length long) short in
     record {
       holds = subst (Holds after) (sym (ap (λ b. cond b [] long) no)) a.holds;
       closed = sym (ap (λ b. closed_by b s long) no);
@@ -59,7 +52,7 @@ tallying s after ss rs None e a =
 tallying s after ss rs (Some m) e a =
     let whole = ss ++ rs ∷ [] in
     let long : length whole ≡ period_seconds s = a.long ∙ ap (λ f. f.period_intervals * f.interval_seconds) e in
-    let yes : is_whole s whole ≡ true = is_whole_lem (period_seconds s) (length whole) (is_whole s whole) refl (omega arith) in
+    let yes : is_whole s whole ≡ true = le-leb (period_seconds s) (length whole) (omega arith) in
     record {
       holds = subst (Holds after) (sym (ap (λ b. cond b [] whole) yes)) a.fresh;
       closed = ap Some (a.measure ∙ ap (λ f. period_measure f whole) e) ∙ sym (ap (λ b. closed_by b s whole) yes);
