@@ -1,6 +1,8 @@
 -- The induction over histories: what the observer works out and what the station is stay tied, act by act.
-use Rattle.std.proofs.Common.{◌≡◌, ℕ, ◌%◌, ◌<◌, ◌≤◌, Bool, true, false, cond, not, ◌&&◌, ◌||◌, ltb, leb, List, [], ◌∷◌, ◌++◌, length, is_some, is_ok, Some, None, Ok, Err, Option, Result, sym, refl, ap, ◌∙◌, subst, subst₂, mul_comm, arith, ltb-false, ltb-true, leb-false, leb-true}
+use Rattle.std.proofs.Common.{◌≡◌, ℕ, ◌%◌, ◌≤◌, Bool, true, false, cond, not, ◌&&◌, ◌||◌, ltb, leb, List, [], ◌∷◌, ◌++◌, length, is_some, is_ok, Some, None, Ok, Err, Option, Result, sym, refl, ap, ◌∙◌, subst, subst₂, mul_comm, arith}
 use mathlib.Core.Path.{subst₃}
+use Rattle.std.proofs.lemmas.Bool.{false≢true}
+use Rattle.std.proofs.lemmas.Bool.Decides.{nat_tests}
 use Rattle.sheet.specs.declared.sheet.Sheet.{Sheet}
 use Rattle.strategy.specs.declared.strategy.Strategy.{Ghosts as StrategyMeaning}
 use Rattle.loops.specs.Rules as loops
@@ -10,7 +12,7 @@ use Rattle.orders.specs.declared.order.Order.{Order}
 use Rattle.orders.specs.declared.order.Order.TheVariants as order
 use Rattle.orders.specs.declared.fault.OrderFault.{OrderFault}
 use Rattle.orders.specs.Orders.{order_of}
-use Rattle.runlaw.proofs.Orders.{cycle_order_within}
+use Rattle.orders.proofs.Spelling.{taken_only}
 use Rattle.control.specs.declared.answer.Answer.{Answer}
 use Rattle.control.specs.declared.answer.Refused.{Refused}
 use Rattle.control.specs.declared.answer.Refused.TheVariants as refused
@@ -36,9 +38,6 @@ use Rattle.runlaw.specs.Log.{in_metering, Log, Close, row, cycle_now, reset_sinc
 use Rattle.runlaw.specs.RunLaw.{Succession, Darkness, trip_stands, RunLaw}
 use Rattle.runlaw.proofs.Seen.{Seen, seen, Tied, Good, Leads}
 use Rattle.runlaw.proofs.Steps.{goes, trips}
-
-never : false ≡ true → ⊥
-never e = let z : ◌≡◌ {A = ℕ} 0 1 = cc in omega arith
 
 -- a phase's step neither trips nor ends a trip
 abbrev Sound : Stage → Type 0
@@ -69,12 +68,12 @@ still f i stage.Tripped = refl
 -- a tripped station is dark and outside metering
 dark : (s : Stage) → is_tripped s ≡ true → colour_of s ≡ Dark
 dark stage.Standby e = refl
-dark (stage.OpeningFlash t) e = absurd (never e)
-dark (stage.OpeningAmber t) e = absurd (never e)
-dark (stage.OpeningRed t) e = absurd (never e)
-dark (stage.Metering m) e = absurd (never e)
-dark stage.Draining e = absurd (never e)
-dark (stage.Closing t) e = absurd (never e)
+dark (stage.OpeningFlash t) e = absurd (false≢true e)
+dark (stage.OpeningAmber t) e = absurd (false≢true e)
+dark (stage.OpeningRed t) e = absurd (false≢true e)
+dark (stage.Metering m) e = absurd (false≢true e)
+dark stage.Draining e = absurd (false≢true e)
+dark (stage.Closing t) e = absurd (false≢true e)
 dark stage.Tripped e = refl
 
 outside : (s : Stage) → is_tripped s ≡ true → in_metering (phase_of s) ≡ false
@@ -82,7 +81,7 @@ outside stage.Standby e = refl
 outside (stage.OpeningFlash t) e = refl
 outside (stage.OpeningAmber t) e = refl
 outside (stage.OpeningRed t) e = refl
-outside (stage.Metering m) e = absurd (never e)
+outside (stage.Metering m) e = absurd (false≢true e)
 outside stage.Draining e = refl
 outside (stage.Closing t) e = refl
 outside stage.Tripped e = refl
@@ -106,22 +105,10 @@ length_within : (o : Option ℕ) (c : ℕ) → Within o → (4 ≤ c) × (c ≤ 
 length_within None c w h = h
 length_within (Some n) c w h = w
 
--- a period is whole exactly where it is no longer short of its seconds
-not_leb : (a b : ℕ) (v : Bool) → leb a b ≡ v → b < a → leb a b ≡ false
-not_leb a b true e h = absurd (let k = leb-true a b e in omega arith)
-not_leb a b false e h = e
-
-is_leb : (a b : ℕ) (v : Bool) → leb a b ≡ v → a ≤ b → leb a b ≡ true
-is_leb a b true e h = e
-is_leb a b false e h = absurd (let k = leb-false a b e in omega arith)
-
 leb_or_ltb : (a b : ℕ) → leb a b ≡ not (ltb b a)
-leb_or_ltb a b =
-    elim (ltb b a) as (λ v. ltb b a ≡ v → leb a b ≡ not v) [
-      | true ↦ λ e. not_leb a b (leb a b) refl (ltb-true b a e)
-      | false ↦ λ e. is_leb a b (leb a b) refl (ltb-false b a e)
-    ] refl
+leb_or_ltb a b = grind (arith, nat_tests)
 
+-- a period is whole exactly where it is no longer short of its seconds
 whole_same : (f : Sheet) (ss : List loops.Second) → is_whole f ss ≡ not (ltb (length ss) (whole_period f))
 whole_same f ss =
     ap (λ n. leb n (length ss)) (mul_comm f.draft.period_intervals f.draft.interval_seconds) ∙ leb_or_ltb (whole_period f) (length ss)
@@ -237,17 +224,12 @@ module _ {S : Type 0} (st : StrategyMeaning S) (f : Sheet) (s : S) where
       cond (is_ok r) (cycle_by_line o c.centre_cycle) c.centre_cycle ≡ (obeyed o r c).centre_cycle
   line_centre (Err e) (Err x) c = refl
   line_centre (Err e) (Ok x) c = refl
-  line_centre (Ok order.Central) (Err x) c = refl
+  line_centre (Ok o) (Err x) c = refl
   line_centre (Ok order.Central) (Ok x) c = refl
-  line_centre (Ok order.Local) (Err x) c = refl
   line_centre (Ok order.Local) (Ok x) c = refl
-  line_centre (Ok (order.Cycle n)) (Err x) c = refl
   line_centre (Ok (order.Cycle n)) (Ok x) c = refl
-  line_centre (Ok order.Off) (Err x) c = refl
   line_centre (Ok order.Off) (Ok x) c = refl
-  line_centre (Ok order.Status) (Err x) c = refl
   line_centre (Ok order.Status) (Ok x) c = refl
-  line_centre (Ok order.Cycles) (Err x) c = refl
   line_centre (Ok order.Cycles) (Ok x) c = refl
 
   line_within :
@@ -255,18 +237,17 @@ module _ {S : Type 0} (st : StrategyMeaning S) (f : Sheet) (s : S) where
       Within c.centre_cycle → Within (obeyed o r c).centre_cycle
   line_within (Err e) (Err x) c q w = w
   line_within (Err e) (Ok x) c q w = w
-  line_within (Ok order.Central) (Err x) c q w = w
+  line_within (Ok o) (Err x) c q w = w
   line_within (Ok order.Central) (Ok x) c q w = w
-  line_within (Ok order.Local) (Err x) c q w = w
   line_within (Ok order.Local) (Ok x) c q w = tt
-  line_within (Ok (order.Cycle n)) (Err x) c q w = w
   line_within (Ok (order.Cycle n)) (Ok x) c q w = q n refl
-  line_within (Ok order.Off) (Err x) c q w = w
   line_within (Ok order.Off) (Ok x) c q w = w
-  line_within (Ok order.Status) (Err x) c q w = w
   line_within (Ok order.Status) (Ok x) c q w = w
-  line_within (Ok order.Cycles) (Err x) c q w = w
   line_within (Ok order.Cycles) (Ok x) c q w = w
+
+  -- a cycle that a line orders is one of 4 to 120
+  cycle_order_within : (line : List ℕ) (n : ℕ) → order_of line ≡ Ok (order.Cycle n) → (4 ≤ n) × (n ≤ 120)
+  cycle_order_within line n e = let spelt = (taken_only line (order.Cycle n) e).1 in (spelt.4, spelt.5)
 
   line_inv :
       (h : History) (n : Model S) (line before behind : List ℕ) (c : Colour) → Inv h n →
