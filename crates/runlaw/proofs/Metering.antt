@@ -1,5 +1,6 @@
 -- One second of metering keeps the invariant and the succession.
 use Rattle.std.proofs.Common.{◌≡◌, ℕ, ◌+◌, ◌-◌, ◌<◌, ◌≤◌, min, max, Bool, true, false, cond, not, ◌&&◌, ◌||◌, ltb, ◌⊎◌, sym, refl, ap, ◌∙◌, subst, inl, inr, arith, ltb-false, ltb-true}
+use Rattle.std.proofs.lemmas.Bool.{false≢true}
 use Rattle.sheet.specs.declared.sheet.Sheet.{Sheet}
 use Rattle.lamps.specs.declared.colour.Colour.{Colour}
 use Rattle.lamps.specs.declared.colour.Colour.TheVariants.{Red, FixedAmber, FlashingAmber}
@@ -16,9 +17,6 @@ use Rattle.runlaw.specs.Log.{in_metering}
 use Rattle.runlaw.specs.RunLaw.{MayFollow}
 use Rattle.runlaw.proofs.Seen.{Seen, grown, grown_by, put_all, at_all, Leads, MeterTied, LightTied, Bound}
 
-never : false ≡ true → ⊥
-never e = let z : ◌≡◌ {A = ℕ} 0 1 = cc in omega arith
-
 same_cycle : (b : Bool) (x y : ℕ) → (b ≡ true → x ≡ y) → cond b x y ≡ y
 same_cycle true x y h = h refl
 same_cycle false x y h = refl
@@ -31,7 +29,8 @@ red_out : (b : Bool) (a r t n : ℕ) → cond b a t ≤ n → r ≤ a → cond b
 red_out true a r t n h k = omega arith
 red_out false a r t n h k = h
 
-up : (p : Bool) (n a : ℕ) → n ≤ a → cond p (n + 1) 0 ≤ a + 1
+-- a wait of one more row, or none, is at most one longer than a limit
+pub up : (p : Bool) (n a : ℕ) → n ≤ a → cond p (n + 1) 0 ≤ a + 1
 up true n a h = omega arith
 up false n a h = omega arith
 
@@ -183,7 +182,7 @@ module _ (f : Sheet) (pr : Bool) (fx : ℕ) (d : Seen) (m : Meter) (on : Bool) (
     red_moves true wanted full p o y e z = red_stays_moves (λ _. inl (ltb-true m.age (RM f) y))
     red_moves false false full p o y e z = close_moves (ltb-false m.age (RM f) y)
     red_moves false true true p o y e z = drain_moves (ltb-false m.age (RM f) y)
-    red_moves false true false false o y e z = red_stays_moves (λ q. absurd (never (sym e ∙ q)))
+    red_moves false true false false o y e z = red_stays_moves (λ q. absurd (false≢true (sym e ∙ q)))
     red_moves false true false true true y e z = open_moves (ltb-false m.age (RM f) y) (ltb-true 0 after.arrears z)
     red_moves false true false true false y e z = red_stays_moves (λ q. inr (omega (arith, ltb-false 0 after.arrears z)))
 

@@ -1,5 +1,5 @@
 -- What the law reads of a log, as one record, and how one more row changes it; and the invariant over it.
-use Rattle.std.proofs.Common.{◌≡◌, ℕ, ◌+◌, ◌-◌, ◌≤◌, max, Bool, true, false, cond, not, ◌&&◌, ◌||◌, ltb, sym, subst}
+use Rattle.std.proofs.Common.{◌≡◌, ℕ, ◌+◌, ◌-◌, ◌≤◌, max, Bool, true, false, cond, not, ◌&&◌, ◌||◌, ltb, sym, refl, subst}
 use Rattle.sheet.specs.declared.sheet.Sheet.{Sheet}
 use Rattle.lamps.specs.declared.colour.Colour.{Colour}
 use Rattle.control.specs.declared.stage.Light.{Light}
@@ -109,25 +109,7 @@ pub record Leads (f : Sheet) (trip : Bool) (d e : Seen) (s : Stage) : Type 0 whe
   pub good : Good f e s
   pub follows : MayFollow f trip d.stretch d.flashed d.ambered d.colour e.colour
 
--- the same, with colour and inside written in; and with the running cycle too
-abbrev pub put : Seen → Colour → Bool → Seen
-put d c b =
-    record {
-      colour = c;
-      inside = b;
-      metering = d.metering;
-      cycle = d.cycle;
-      lasted = d.lasted;
-      stretch = d.stretch;
-      flashed = d.flashed;
-      ambered = d.ambered;
-      openings = d.openings;
-      begun = d.begun;
-      waits = d.waits;
-      waited = d.waited;
-      wait_cycle = d.wait_cycle;
-    }
-
+-- the same, with colour and inside written in, and the running cycle too
 abbrev pub put_all : Seen → Colour → Bool → Bool → ℕ → ℕ → Seen
 put_all d c b g n k =
     record {
@@ -146,10 +128,14 @@ put_all d c b g n k =
       wait_cycle = d.wait_cycle;
     }
 
-pub at : (P : Seen → Type 0) (d : Seen) {c : Colour} {b : Bool} → d.colour ≡ c → d.inside ≡ b → P (put d c b) → P d
-at P d e1 e2 p = subst P (λ i. put d (sym e1 i) (sym e2 i)) p
+-- the same, with colour and inside alone
+abbrev pub put : Seen → Colour → Bool → Seen
+put d c b = put_all d c b d.metering d.cycle d.lasted
 
 pub at_all :
     (P : Seen → Type 0) (d : Seen) {c : Colour} {b g : Bool} {n k : ℕ} →
     d.colour ≡ c → d.inside ≡ b → d.metering ≡ g → d.cycle ≡ n → d.lasted ≡ k → P (put_all d c b g n k) → P d
 at_all P d e1 e2 e3 e4 e5 p = subst P (λ i. put_all d (sym e1 i) (sym e2 i) (sym e3 i) (sym e4 i) (sym e5 i)) p
+
+pub at : (P : Seen → Type 0) (d : Seen) {c : Colour} {b : Bool} → d.colour ≡ c → d.inside ≡ b → P (put d c b) → P d
+at P d e1 e2 p = at_all P d e1 e2 refl refl refl p

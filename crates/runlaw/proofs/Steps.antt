@@ -1,5 +1,6 @@
 -- One second of each stage keeps the invariant and the succession.
-use Rattle.std.proofs.Common.{◌≡◌, ℕ, ◌+◌, ◌≤◌, Bool, true, false, cond, ◌&&◌, ltb, sym, refl, subst, arith, ltb-false, ltb-true}
+use Rattle.std.proofs.Common.{◌≡◌, ℕ, ◌+◌, ◌≤◌, Bool, true, false, cond, ◌&&◌, ◌||◌, ltb, sym, refl, subst, arith, ltb-false, ltb-true}
+use Rattle.std.proofs.lemmas.Bool.{false≢true}
 use Rattle.sheet.specs.declared.sheet.Sheet.{Sheet}
 use Rattle.lamps.specs.declared.colour.Colour.{Colour}
 use Rattle.lamps.specs.declared.colour.Colour.TheVariants.{Dark, Red, FixedAmber, FlashingAmber}
@@ -11,37 +12,24 @@ use Rattle.control.specs.Phases.{phase_of, colour_of}
 use Rattle.control.specs.Metering.{red_step, clocked_by, started, metered}
 use Rattle.control.specs.Steps.{stepped}
 use Rattle.runlaw.specs.Log.{in_metering}
-use Rattle.runlaw.specs.RunLaw.{MayFollow}
-use Rattle.runlaw.proofs.Metering.{meters_go}
-use Rattle.runlaw.proofs.Seen.{Seen, grown, put, put_all, at, at_all, Good, Leads, Tied}
+use Rattle.runlaw.specs.RunLaw.{is_red, MayFollow}
+use Rattle.runlaw.proofs.Metering.{up, meters_go}
+use Rattle.runlaw.proofs.Seen.{Seen, grown, grown_by, put, put_all, at, at_all, Good, Leads, Tied}
 
-never : false ≡ true → ⊥
-never e = let z : ◌≡◌ {A = ℕ} 0 1 = cc in omega arith
+-- no row outside metering is of a wait
+no_wait : (red presence : Bool) (n : ℕ) → cond (red && false && presence) n 0 ≡ 0
+no_wait true presence n = refl
+no_wait false presence n = refl
 
-up : (p : Bool) (n a : ℕ) → n ≤ a → cond p (n + 1) 0 ≤ a + 1
-up true n a h = omega arith
-up false n a h = omega arith
-
--- a step from outside metering to outside metering
+-- a step from outside metering to outside metering: b says whether the stage is inside
 calm_put :
-    (f : Sheet) (pr : Bool) (fx : ℕ) (d : Seen) (c : Colour) (s : Stage) → in_metering (phase_of s) ≡ false →
-    Tied f (grown false pr fx (put d c false) s) s → MayFollow f false d.stretch d.flashed d.ambered c (colour_of s) →
-    Leads f false (put d c false) (grown false pr fx (put d c false) s) s
-calm_put f pr fx d c stage.Standby q ti fo =
-    record { good = record { colour = refl; inside = refl; paced = omega arith; bound = (omega arith, omega arith); tied = ti }; follows = fo }
-calm_put f pr fx d c (stage.OpeningFlash t) q ti fo =
-    record { good = record { colour = refl; inside = refl; paced = omega arith; bound = (omega arith, omega arith); tied = ti }; follows = fo }
-calm_put f pr fx d c (stage.OpeningAmber t) q ti fo =
-    record { good = record { colour = refl; inside = refl; paced = omega arith; bound = (omega arith, omega arith); tied = ti }; follows = fo }
-calm_put f pr fx d c (stage.OpeningRed t) q ti fo =
-    record { good = record { colour = refl; inside = refl; paced = omega arith; bound = (omega arith, omega arith); tied = ti }; follows = fo }
-calm_put f pr fx d c (stage.Metering m) q ti fo = absurd (never (sym q))
-calm_put f pr fx d c stage.Draining q ti fo =
-    record { good = record { colour = refl; inside = refl; paced = omega arith; bound = (omega arith, omega arith); tied = ti }; follows = fo }
-calm_put f pr fx d c (stage.Closing t) q ti fo =
-    record { good = record { colour = refl; inside = refl; paced = omega arith; bound = (omega arith, omega arith); tied = ti }; follows = fo }
-calm_put f pr fx d c stage.Tripped q ti fo =
-    record { good = record { colour = refl; inside = refl; paced = omega arith; bound = (omega arith, omega arith); tied = ti }; follows = fo }
+    (f : Sheet) (pr : Bool) (fx : ℕ) (d : Seen) (c : Colour) (s : Stage) (b : Bool) → b ≡ false → b ≡ in_metering (phase_of s) →
+    let e = grown_by (b || false) (d.metering && ltb d.lasted d.cycle) (colour_of s) b pr fx (put d c false) in
+    Tied f e s → MayFollow f false d.stretch d.flashed d.ambered c (colour_of s) → Leads f false (put d c false) e s
+calm_put f pr fx d c s true q same ti fo = absurd (false≢true (sym q))
+calm_put f pr fx d c s false q same ti fo =
+    let none = no_wait (is_red (colour_of s)) pr (d.waited + 1) in
+    record { good = record { colour = refl; inside = same; paced = omega arith; bound = (omega (arith, none), omega (arith, none)); tied = ti }; follows = fo }
 
 module _ (f : Sheet) (i : Conditions) (lo : 4 ≤ i.length) (hi : i.length ≤ 120) (d : Seen) where
   abbrev Goes : Stage → Seen → Type 0
@@ -51,7 +39,7 @@ module _ (f : Sheet) (i : Conditions) (lo : 4 ≤ i.length) (hi : i.length ≤ 1
       (c : Colour) (s : Stage) → in_metering (phase_of s) ≡ false → d.colour ≡ c → d.inside ≡ false →
       Tied f (grown false i.presence i.length (put d c false) s) s →
       MayFollow f false d.stretch d.flashed d.ambered c (colour_of s) → Goes s d
-  calm c s q e1 e2 ti fo = at (Goes s) d e1 e2 (calm_put f i.presence i.length d c s q ti fo)
+  calm c s q e1 e2 ti fo = at (Goes s) d e1 e2 (calm_put f i.presence i.length d c s (in_metering (phase_of s)) q refl ti fo)
 
   rest_goes : (v : Bool) → d.colour ≡ Dark → d.inside ≡ false → Goes (cond v (stage.OpeningFlash 1) stage.Standby) d
   rest_goes true e1 e2 = calm Dark (stage.OpeningFlash 1) refl e1 e2 tt tt
