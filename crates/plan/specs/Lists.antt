@@ -1,5 +1,6 @@
 -- The lanes of a second and the ranges of a calendar.
 use Rattle.std.specs.Prelude.{ℕ, ◌-◌, min, List, ◌++◌, length, take, replicate, Ok, Option, Result}
+use Rattle.loops.specs.Rules.{no_reading}
 use Rattle.loops.specs.declared.reading.LaneReading.{LaneReading}
 use Rattle.plan.specs.declared.row.UpTo.{UpTo}
 use Rattle.sheet.specs.declared.calendar.MinuteRange.{MinuteRange}
@@ -20,9 +21,6 @@ padded k z xs = xs ++ replicate (k - length xs) z
 -- 0 to k values, and z in the places behind them
 abbrev pub up_to : {A : Type 0} → (List ℕ → Option A) → Wanted → (k : ℕ) → A → Numbered → Result (UpTo A k) RowFault
 up_to means w k z fs = given (at_most means w k fs) (λ xs. Ok (record { items = padded k z xs; count = length xs }))
-
-abbrev pub no_reading : LaneReading
-no_reading = record { seen = 0; sound = 0; busy_ms = 0 }
 
 -- 0 to 16 lanes
 abbrev pub lanes_of : Numbered → Result (UpTo LaneReading 16) RowFault
