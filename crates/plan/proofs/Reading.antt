@@ -13,13 +13,13 @@ abbrev pub prepend : {A : Type 0} → List A → Result (List A) RowFault → Re
 prepend xs (Ok ys) = Ok (xs ++ ys)
 prepend xs (Err e) = Err e
 
-prepend_none : {A : Type 0} (r : Result (List A) RowFault) → r ≡ prepend [] r
-prepend_none (Ok ys) = refl
-prepend_none (Err e) = refl
-
 prepend_more : {A : Type 0} (xs : List A) (x : A) (r : Result (List A) RowFault) → prepend xs (together (Ok x) r) ≡ prepend (xs ++ x ∷ []) r
 prepend_more xs x (Ok ys) = ap Ok (sym (append_assoc xs (x ∷ []) ys))
 prepend_more xs x (Err e) = refl
+
+-- a write at a place leaves what is behind it
+pub same_behind : {A : Type 0} (new old : List A) (k : ℕ) (x : A) → drop k new ≡ drop k old → drop (k + 1) (set new k x) ≡ drop (k + 1) old
+same_behind new old k x e = drop-set-lt (k + 1) new k x (omega arith) ∙ sym (drop-drop 1 k new) ∙ ap (drop 1) e ∙ drop-drop 1 k old
 
 -- `several n fs` are the values of n places in the fields fs: k of these values stand at the front of `new`, and the fields gs are left
 pub record Reading {A : Type 0} (several : ℕ → Numbered → Result (List A) RowFault) (fs : Numbered) (old new : List A) (k : ℕ) (gs : Numbered) : Type 0 where
@@ -44,7 +44,7 @@ module _ {A : Type 0} {several : ℕ → Numbered → Result (List A) RowFault} 
           told = r.told ∙ ap (prepend (take k new)) (more ∙ ap (λ y. together y rest) (sym v)) ∙ prepend_more (take k new) x rest
               ∙ ap (λ ys. prepend ys rest) (sym (take_more_set new k x lt))
               ∙ ap (λ js. prepend (take (k + 1) (set new k x)) (several (length old - (k + 1)) js)) (sym e);
-          same = drop-set-lt (k + 1) new k x (omega arith) ∙ sym (drop-drop 1 k new) ∙ ap (drop 1) r.same ∙ drop-drop 1 k old;
+          same = same_behind new old k x r.same;
         }
 
     pub reading_bad : (x : RowFault) → Err x ≡ value_at means w gs → several (length old) fs ≡ Err x

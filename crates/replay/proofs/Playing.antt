@@ -1,6 +1,6 @@
 -- Acts one after the other.
-use Rattle.std.proofs.Common.{◌≡◌, ℕ, ◌+◌, ◌<◌, List, [], ◌∷◌, ◌++◌, length, get_or, take, drop, set, sym, refl, ap, ◌∙◌, subst, subst₂, arith}
-use Rattle.std.proofs.lemmas.List.{take_more, take_more_set, drop-set-lt, drop-drop}
+use Rattle.std.proofs.Common.{ℕ, ◌+◌, ◌<◌, List, [], ◌∷◌, ◌++◌, length, get_or, take, set, sym, refl, subst, subst₂}
+use Rattle.std.proofs.lemmas.List.{take_more, take_more_set}
 use Rattle.strategy.specs.declared.strategy.Strategy.{Ghosts as StrategyMeaning}
 use Rattle.lamps.specs.declared.head.LampHead.{Ghosts as HeadMeaning}
 use Rattle.runlaw.specs.History.{History}
@@ -36,7 +36,3 @@ module _ {S H : Type 0} (st : StrategyMeaning S) (hd : HeadMeaning H) where
   goes_through [] (r ∷ rs) before behind p s h ran = absurd p
   goes_through (x ∷ xs) [] before behind p s h ran = absurd p
   goes_through (x ∷ xs) (r ∷ rs) before behind p s h ran = goes_through xs rs p.0 behind p.2 s (act_of x r ∷ h) (p.1.goes_on s h ran)
-
--- the places behind the one that was written
-pub rest_more : (rs qs : List Answered) (i : ℕ) (r : Answered) → drop i rs ≡ drop i qs → drop (i + 1) (set rs i r) ≡ drop (i + 1) qs
-rest_more rs qs i r e = drop-set-lt (i + 1) rs i r (omega arith) ∙ sym (drop-drop 1 i rs) ∙ ap (drop 1) e ∙ drop-drop 1 i qs

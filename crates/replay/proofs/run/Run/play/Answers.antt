@@ -1,6 +1,7 @@
 use Rattle.std.proofs.Common.{◌≡◌, ◌<◌, length, take, drop, subst, arith}
 use Rattle.replay.specs.Played.{Played}
-use Rattle.replay.proofs.Playing.{played_more, goes_through, rest_more}
+use Rattle.plan.proofs.Reading.{same_behind}
+use Rattle.replay.proofs.Playing.{played_more, goes_through}
 use Rattle.replay.proofs.run.Run.play.Goals as goal
 
 pub loop-i-preserved : goal.loop-i-preserved
@@ -9,7 +10,7 @@ loop-i-preserved g c =
     let acts = c.args.acts.now in
     let p : at.i < length acts = omega (arith, c.min-count.ensures, c.loop-i-test.true) in
     let q : at.i < length at.answers = omega (arith, c.min-count.ensures, c.loop-i-test.true, at.auto.answers) in (
-      rest_more at.answers c.args.answers.now at.i c.act.result at.invariant.0,
+      same_behind at.answers c.args.answers.now at.i c.act.result at.invariant.0,
       played_more g.S.Strategy g.H.LampHead acts at.answers at.i _ c.act.result c.args.self.now at.self c.act.new.self p q at.invariant.1 c.act.ensures,
     )
 
