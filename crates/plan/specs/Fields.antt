@@ -1,5 +1,5 @@
 -- The fields of a text.
-use Rattle.std.specs.Prelude.{ℕ, ◌+◌, min, Bool, true, false, List, [], ◌∷◌, Some, None, Option, ◌==◌}
+use Rattle.std.specs.Prelude.{ℕ, ◌+◌, min, Bool, true, false, List, [], ◌∷◌, Some, None, drop, Option, ◌==◌}
 use Rattle.std.specs.Borrow.{Bor}
 use Rattle.plan.specs.declared.fields.Fields.{Fields}
 
@@ -31,19 +31,10 @@ fields_in m (Some rest) = fields_of m rest.now
 unfoldable pub fields_left : Fields → Numbered
 fields_left f = record { number = f.number; fields = fields_in f.mark f.rest }
 
-abbrev pub first_of : {A : Type 0} → List A → Option A
-first_of [] = None
-first_of (x ∷ xs) = Some x
-
--- all but the first
-abbrev pub behind : {A : Type 0} → List A → List A
-behind [] = []
-behind (x ∷ xs) = xs
-
 abbrev pub is_empty : {A : Type 0} → List A → Bool
 is_empty [] = true
 is_empty (x ∷ xs) = false
 
 -- the fields behind the first of these; their number stops at the largest that a fault can tell
 abbrev pub past : Numbered → Numbered
-past fs = record { number = min (fs.number + 1) 4294967295; fields = behind fs.fields }
+past fs = record { number = min (fs.number + 1) 4294967295; fields = drop 1 fs.fields }

@@ -1,5 +1,5 @@
 -- What a row says.
-use Rattle.std.specs.Prelude.{ℕ, Bool, true, cond, ◌&&◌, List, [], ◌∷◌, Some, None, Ok, Err, codes, Option, Result, ◌==◌, nat_le}
+use Rattle.std.specs.Prelude.{ℕ, Bool, true, cond, ◌&&◌, List, [], ◌∷◌, Some, None, Ok, Err, codes, drop, Option, Result, ◌==◌, nat_le, slice_get}
 use Rattle.std.specs.Option.{option_map, ok_or}
 use Rattle.plan.specs.declared.row.Row.{Row}
 use Rattle.plan.specs.declared.row.Row.TheVariants.{Blank, Sheet, Strategy, Head, Calendar, Second, Line, Reset}
@@ -7,7 +7,7 @@ use Rattle.plan.specs.declared.row.RowFault.{RowFault}
 use Rattle.plan.specs.declared.row.RowFault.TheVariants.{UnknownKind, Bad}
 use Rattle.plan.specs.declared.row.Wanted.TheVariants.{Number, Head as AHead, Buffer}
 use Rattle.plan.specs.Decimal.{decimal}
-use Rattle.plan.specs.Fields.{Numbered, fields_of, all_fields, first_of, behind, is_empty, past}
+use Rattle.plan.specs.Fields.{Numbered, fields_of, all_fields, is_empty, past}
 use Rattle.plan.specs.Lists.{calendar_of}
 use Rattle.plan.specs.Seconds.{second_of, seconds_of}
 use Rattle.plan.specs.Several.{exactly}
@@ -37,7 +37,7 @@ reset_of fs = given (end_at fs) (λ _. Ok Reset)
 
 -- the size of an answer buffer: one number of at most 1,000
 abbrev pub size_in : List (List ℕ) → Option ℕ
-size_in ps = with (number_in ps) (λ k. cond (nat_le k 1000 && is_empty (behind ps)) (Some k) None)
+size_in ps = with (number_in ps) (λ k. cond (nat_le k 1000 && is_empty (drop 1 ps)) (Some k) None)
 
 -- 80 bytes where no size is written
 abbrev pub buffer_in : List (List ℕ) → Result Row RowFault
@@ -67,7 +67,7 @@ line_or None r = r
 
 abbrev pub row_in : Numbered → Result Row RowFault
 row_in fs =
-    given (ok_or (first_of fs.fields) UnknownKind) (λ t.
+    given (ok_or (slice_get fs.fields 0) UnknownKind) (λ t.
     given (line_in (fields_of 47 t)) (λ l.
     line_or l (row_named t (past fs))))
 

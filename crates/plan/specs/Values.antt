@@ -1,5 +1,5 @@
 -- What one field of a row says.
-use Rattle.std.specs.Prelude.{ℕ, Bool, true, false, cond, ◌&&◌, List, [], ◌∷◌, Some, None, Ok, Err, Option, Result, ◌==◌}
+use Rattle.std.specs.Prelude.{ℕ, Bool, true, false, cond, ◌&&◌, List, [], ◌∷◌, Some, None, Ok, Err, drop, Option, Result, ◌==◌, slice_get}
 use Rattle.std.specs.Option.{ok_or}
 use Rattle.loops.specs.declared.reading.LaneReading.{LaneReading}
 use Rattle.plan.specs.declared.row.RowFault.{RowFault}
@@ -7,7 +7,7 @@ use Rattle.plan.specs.declared.row.RowFault.TheVariants.{Missing, Bad, Surplus}
 use Rattle.sheet.specs.declared.calendar.MinuteRange.{MinuteRange}
 use Rattle.plan.specs.declared.row.Wanted.{Wanted}
 use Rattle.plan.specs.Decimal.{decimal}
-use Rattle.plan.specs.Fields.{Numbered, fields_of, first_of, behind, is_empty}
+use Rattle.plan.specs.Fields.{Numbered, fields_of, is_empty}
 
 -- what a row says on, unless a field before was wrong
 abbrev pub given : {A B : Type 0} → Result A RowFault → (A → Result B RowFault) → Result B RowFault
@@ -17,7 +17,7 @@ given (Err e) k = Err e
 -- the value in the first of these fields; w is wanted there
 abbrev pub value_at : {A : Type 0} → (List ℕ → Option A) → Wanted → Numbered → Result A RowFault
 value_at means w fs =
-    given (ok_or (first_of fs.fields) (Missing fs.number w)) (λ f.
+    given (ok_or (slice_get fs.fields 0) (Missing fs.number w)) (λ f.
     ok_or (means f) (Bad fs.number w))
 
 -- a row that should end before these fields
@@ -45,9 +45,9 @@ with (Some x) k = k x
 abbrev pub lane_in : List (List ℕ) → Option LaneReading
 lane_in ps =
     with (number_in ps) (λ a.
-    with (number_in (behind ps)) (λ b.
-    with (number_in (behind (behind ps))) (λ c.
-    cond (is_empty (behind (behind (behind ps)))) (Some (record { seen = a; sound = b; busy_ms = c })) None)))
+    with (number_in (drop 1 ps)) (λ b.
+    with (number_in (drop 2 ps)) (λ c.
+    cond (is_empty (drop 3 ps)) (Some (record { seen = a; sound = b; busy_ms = c })) None)))
 
 -- a lane is three numbers with `|` (124) between them
 abbrev pub lane_of : List ℕ → Option LaneReading
@@ -56,9 +56,9 @@ lane_of t = lane_in (fields_of 124 t)
 abbrev pub range_in : List (List ℕ) → Option MinuteRange
 range_in ps =
     with (number_in ps) (λ a.
-    with (first_of (behind ps)) (λ gap.
-    with (number_in (behind (behind ps))) (λ b.
-    cond (is_empty gap && is_empty (behind (behind (behind ps)))) (Some (record { from = a; to = b })) None)))
+    with (slice_get ps 1) (λ gap.
+    with (number_in (drop 2 ps)) (λ b.
+    cond (is_empty gap && is_empty (drop 3 ps)) (Some (record { from = a; to = b })) None)))
 
 -- a range is two numbers with `..` between them: cut at `.` (46), a number, nothing, and a number
 abbrev pub range_of : List ℕ → Option MinuteRange

@@ -1,7 +1,7 @@
 // Taking a text apart at its marks.
-ghost use Rattle.std.specs.Prelude.{◌≡◌};
+ghost use Rattle.std.specs.Prelude.{◌≡◌, slice_get};
 ghost use Rattle.std.specs.Option.{option_map};
-ghost use Rattle.plan.specs.Fields.{all_fields, fields_left, first_of, past, is_empty};
+ghost use Rattle.plan.specs.Fields.{all_fields, fields_left, past, is_empty};
 
 use crate::text::find;
 
@@ -45,7 +45,7 @@ impl<'a> Fields<'a> {
     // The next field, if one is left.
     #[tactic(auto, using(crate::proofs::Cuts::uncut), unfolding(crate::specs::Fields::fields_left))]
     pub(crate) fn next(&mut self) -> Option<&'a [u8]>
-        ensures value { option_map (λ x. x.now) result ≡ first_of (fields_left self.old).fields }
+        ensures value { option_map (λ x. x.now) result ≡ slice_get (fields_left self.old).fields 0 }
         ensures after { fields_left self.new ≡ past (fields_left self.old) }
     {
         self.number = self.number.saturating_add(1);
