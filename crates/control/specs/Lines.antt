@@ -59,22 +59,14 @@ commanded order.Cycles c = c
 -- the letter of the status reading: V standby, H tripped, S else
 abbrev pub status_letter : Stage → ℕ
 status_letter stage.Standby = 86
-status_letter (stage.OpeningFlash t) = 83
-status_letter (stage.OpeningAmber t) = 83
-status_letter (stage.OpeningRed t) = 83
-status_letter (stage.Metering m) = 83
-status_letter stage.Draining = 83
-status_letter (stage.Closing t) = 83
 status_letter stage.Tripped = 72
+status_letter s = 83
 
 -- what an order answers: nothing, but for the status readings
 abbrev pub reply_of : Sheet → Stage → Order → List ℕ
-reply_of f s order.Central = []
-reply_of f s order.Local = []
-reply_of f s (order.Cycle n) = []
-reply_of f s order.Off = []
 reply_of f s order.Status = status_text (status_letter s)
 reply_of f s order.Cycles = cycles_text (running_cycle s) (JC f)
+reply_of f s o = []
 
 -- a reply has to fit the buffer
 abbrev pub fitted : (room : ℕ) → List ℕ → Result (List ℕ) Refused

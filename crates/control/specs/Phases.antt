@@ -37,41 +37,17 @@ phase_of stage.Tripped = phase.Tripped
 
 -- the length of the running reference cycle, 0 outside metering
 abbrev pub running_cycle : Stage → ℕ
-running_cycle stage.Standby = 0
-running_cycle (stage.OpeningFlash t) = 0
-running_cycle (stage.OpeningAmber t) = 0
-running_cycle (stage.OpeningRed t) = 0
 running_cycle (stage.Metering m) = m.length
-running_cycle stage.Draining = 0
-running_cycle (stage.Closing t) = 0
-running_cycle stage.Tripped = 0
+running_cycle s = 0
 
 abbrev pub is_standby : Stage → Bool
 is_standby stage.Standby = true
-is_standby (stage.OpeningFlash t) = false
-is_standby (stage.OpeningAmber t) = false
-is_standby (stage.OpeningRed t) = false
-is_standby (stage.Metering m) = false
-is_standby stage.Draining = false
-is_standby (stage.Closing t) = false
-is_standby stage.Tripped = false
+is_standby s = false
 
 abbrev pub is_tripped : Stage → Bool
-is_tripped stage.Standby = false
-is_tripped (stage.OpeningFlash t) = false
-is_tripped (stage.OpeningAmber t) = false
-is_tripped (stage.OpeningRed t) = false
-is_tripped (stage.Metering m) = false
-is_tripped stage.Draining = false
-is_tripped (stage.Closing t) = false
 is_tripped stage.Tripped = true
+is_tripped s = false
 
 abbrev pub is_draining : Stage → Bool
-is_draining stage.Standby = false
-is_draining (stage.OpeningFlash t) = false
-is_draining (stage.OpeningAmber t) = false
-is_draining (stage.OpeningRed t) = false
-is_draining (stage.Metering m) = false
 is_draining stage.Draining = true
-is_draining (stage.Closing t) = false
-is_draining stage.Tripped = false
+is_draining s = false

@@ -93,41 +93,23 @@ length_fixed None cycle = cycle
 
 abbrev pub opening_by : Light → (age : ℕ) → ℕ
 opening_by light.Flash age = cond (age == 1) 1 0
-opening_by light.Amber age = 0
-opening_by light.Red age = 0
+opening_by l age = 0
 
 -- an opening is the first second of a window flash
 abbrev pub openings_in : Stage → ℕ
-openings_in stage.Standby = 0
-openings_in (stage.OpeningFlash t) = 0
-openings_in (stage.OpeningAmber t) = 0
-openings_in (stage.OpeningRed t) = 0
 openings_in (stage.Metering m) = opening_by m.light m.age
-openings_in stage.Draining = 0
-openings_in (stage.Closing t) = 0
-openings_in stage.Tripped = 0
+openings_in s = 0
 
 -- draining begins with an under-count of 0
 abbrev pub under_at : Stage → Stage → ℕ → ℕ
 under_at before stage.Draining under = cond (is_draining before) under 0
-under_at before stage.Standby under = under
-under_at before (stage.OpeningFlash t) under = under
-under_at before (stage.OpeningAmber t) under = under
-under_at before (stage.OpeningRed t) under = under
-under_at before (stage.Metering m) under = under
-under_at before (stage.Closing t) under = under
-under_at before stage.Tripped under = under
+under_at before s under = under
 
 -- the seconds shown since standby, with one of this phase; a tripped station counts on after its reset, from 0
 abbrev pub shown_after : Stage → ℕ → ℕ
 shown_after stage.Standby shown = 0
-shown_after (stage.OpeningFlash t) shown = count_after shown
-shown_after (stage.OpeningAmber t) shown = count_after shown
-shown_after (stage.OpeningRed t) shown = count_after shown
-shown_after (stage.Metering m) shown = count_after shown
-shown_after stage.Draining shown = count_after shown
-shown_after (stage.Closing t) shown = count_after shown
 shown_after stage.Tripped shown = shown
+shown_after s shown = count_after shown
 
 -- the counts after a second of this phase, which closed a period or did not: openings are counted from the last record on
 abbrev pub counts_after : (closed : Bool) → Stage → Counts → Counts
@@ -142,9 +124,7 @@ counts_after closed stage c =
 -- the advance sign is off exactly when the colour is dark
 abbrev pub is_dark : Colour → Bool
 is_dark colour.Dark = true
-is_dark colour.Red = false
-is_dark colour.FixedAmber = false
-is_dark colour.FlashingAmber = false
+is_dark c = false
 
 -- the period record of a close: its number, minute, measure or none, the strategy's cycle, and the openings since the last record
 abbrev pub period_record_of : (minute cycle : ℕ) → Counts → Option Measure → PeriodRecord

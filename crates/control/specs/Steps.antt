@@ -20,11 +20,6 @@ stepped f c Tripped = Tripped
 
 -- a reference cycle begins in this second: metering starts, or the running one has lasted its length
 abbrev pub begins : Sheet → (wanted : Bool) → Stage → Bool
-begins f wanted Standby = false
-begins f wanted (OpeningFlash t) = false
-begins f wanted (OpeningAmber t) = false
 begins f wanted (OpeningRed t) = not (nat_lt t (T2 f)) && wanted
 begins f wanted (Metering m) = not (runs m)
-begins f wanted Draining = false
-begins f wanted (Closing t) = false
-begins f wanted Tripped = false
+begins f wanted s = false

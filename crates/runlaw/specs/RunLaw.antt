@@ -10,40 +10,23 @@ use Rattle.runlaw.specs.History.{History, Act, Second, Line, Reset, WentThrough}
 use Rattle.runlaw.specs.Log.{in_metering, Log, Row, colour_now, phase_now, log}
 
 abbrev pub is_red : Colour → Bool
-is_red Dark = false
 is_red Red = true
-is_red FixedAmber = false
-is_red FlashingAmber = false
+is_red c = false
 
 abbrev pub is_amber : Colour → Bool
-is_amber Dark = false
-is_amber Red = false
 is_amber FixedAmber = true
-is_amber FlashingAmber = false
+is_amber c = false
 
 abbrev pub is_flashing : Colour → Bool
-is_flashing Dark = false
-is_flashing Red = false
-is_flashing FixedAmber = false
 is_flashing FlashingAmber = true
+is_flashing c = false
 
 abbrev pub same : Colour → Colour → Bool
 same Dark Dark = true
-same Dark Red = false
-same Dark FixedAmber = false
-same Dark FlashingAmber = false
-same Red Dark = false
 same Red Red = true
-same Red FixedAmber = false
-same Red FlashingAmber = false
-same FixedAmber Dark = false
-same FixedAmber Red = false
 same FixedAmber FixedAmber = true
-same FixedAmber FlashingAmber = false
-same FlashingAmber Dark = false
-same FlashingAmber Red = false
-same FlashingAmber FixedAmber = false
 same FlashingAmber FlashingAmber = true
+same c d = false
 
 -- the newest row is of a window flash; of a window amber
 abbrev pub window_flash : Log → Bool
