@@ -31,10 +31,9 @@ module _ {S H : Type 0} (st : StrategyMeaning S) (hd : HeadMeaning H) (before : 
     pub alarm : (ss : List Readings) → Stands before ss → r.alarm ≡ alarm_put st before.sheet (model hd before ss) (given_in second r.word)
     pub lived : GoesOn st hd before behind (history.Second (given_in second r.word) r.answer (hd.colour behind.head))
 
-  -- a line with an answer buffer: what it then holds, and the history
+  -- a line with an answer buffer that then holds these bytes: the history
   pub record LinePlayed (line buffer : List ℕ) (behind : Station S H) (buffer' : List ℕ) (r : Result Reply Refused) : Type 0 where
     pub sheet : behind.sheet ≡ before.sheet
-    pub bytes : buffer' ≡ buffer_after (replied_in r) buffer
     pub lived : GoesOn st hd before behind (history.Line line buffer buffer' (replied_in r) (hd.colour behind.head))
 
   -- a breaker reset: the history

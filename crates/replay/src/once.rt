@@ -95,7 +95,8 @@ fn say<S: Strategy, H: LampHead>(
     text: &[u8],
     buffer: &mut [u8],
 ) -> Result<Reply, Refused>
-    ensures { LinePlayed S.Strategy H.LampHead station.old text.now buffer.old station.new buffer.new result }
+    ensures played { LinePlayed S.Strategy H.LampHead station.old text.now buffer.old station.new buffer.new result }
+    ensures bytes { buffer.new ≡ buffer_after (replied_in result) buffer.old }
 {
     let bytes = station.line(text, buffer)?;
     Ok(Reply::of(buffer, bytes))
