@@ -1,5 +1,6 @@
 -- The induction over histories: what the observer works out and what the station is stay tied, act by act.
-use Rattle.std.proofs.Common.{◌≡◌, ℕ, ◌%◌, ◌≤◌, Bool, true, false, cond, not, ◌&&◌, ◌||◌, ltb, leb, List, [], ◌∷◌, ◌++◌, length, is_some, is_ok, Some, None, Ok, Err, Option, Result, sym, refl, ap, ◌∙◌, subst, subst₂, mul_comm, arith}
+use Rattle.std.specs.Prelude.{min}
+use Rattle.std.proofs.Common.{◌≡◌, ℕ, ◌+◌, ◌%◌, ◌≤◌, Bool, true, false, cond, not, ◌&&◌, ◌||◌, ltb, leb, List, [], ◌∷◌, ◌++◌, length, is_some, is_ok, Some, None, Ok, Err, Option, Result, sym, refl, ap, ◌∙◌, subst, subst₂, mul_comm, arith}
 use mathlib.Core.Path.{subst₃}
 use Rattle.std.proofs.lemmas.Bool.{false≢true}
 use Rattle.std.proofs.lemmas.Bool.Decides.{nat_tests}
@@ -24,7 +25,8 @@ use Rattle.control.specs.declared.stage.Meter.{Meter}
 use Rattle.control.specs.declared.stage.Stage.{Stage}
 use Rattle.control.specs.declared.stage.Stage.TheVariants as stage
 use Rattle.control.specs.declared.state.Command.{Command}
-use Rattle.control.specs.Figures.{T1, T2, T3, RM, loop_figures}
+use Rattle.control.specs.Figures.{T1, T2, T3, RM}
+use Rattle.loops.specs.Source.{loop_figures}
 use Rattle.control.specs.Fresh.{fresh}
 use Rattle.control.specs.Lines.{line_answer, after_line, obeyed, reset_taken}
 use Rattle.control.specs.Metering.{light_step, clocked, started}
@@ -128,6 +130,7 @@ module _ {S : Type 0} (st : StrategyMeaning S) (f : Sheet) (s : S) where
   -- the invariant between what the observer works out of a history and the station
   pub record Inv (h : History) (m : Model S) : Type 0 where
     strategy : state_after st s (closes f h) ≡ m.strategy
+    seconds : m.counts.seconds ≡ min (length (log f st s h)) 4294967295
     readings : since_close f h ≡ m.readings
     centre : centres_cycle h ≡ m.command.centre_cycle
     within : Within m.command.centre_cycle
@@ -208,6 +211,7 @@ module _ {S : Type 0} (st : StrategyMeaning S) (f : Sheet) (s : S) where
     second_inv o =
         record {
           strategy = told_same;
+          seconds = ap (λ k. min (k + 1) 4294967295) v.seconds ∙ omega arith;
           readings = readings_same;
           centre = v.centre;
           within = v.within;
@@ -255,6 +259,7 @@ module _ {S : Type 0} (st : StrategyMeaning S) (f : Sheet) (s : S) where
   line_inv h n line before behind c v =
       record {
         strategy = v.strategy;
+        seconds = v.seconds;
         readings = v.readings;
         centre =
             ap (λ k. cond (is_ok (line_answer f n line (length before))) (cycle_by_line (order_of line) k) k) v.centre ∙
@@ -274,6 +279,7 @@ module _ {S : Type 0} (st : StrategyMeaning S) (f : Sheet) (s : S) where
       let r = v.good in
       record {
         strategy = v.strategy;
+        seconds = v.seconds;
         readings = v.readings;
         centre = refl;
         within = tt;
@@ -293,6 +299,7 @@ module _ {S : Type 0} (st : StrategyMeaning S) (f : Sheet) (s : S) where
   reset_inv h n false c e v =
       record {
         strategy = v.strategy;
+        seconds = v.seconds;
         readings = v.readings;
         centre = v.centre;
         within = v.within;
@@ -307,6 +314,7 @@ module _ {S : Type 0} (st : StrategyMeaning S) (f : Sheet) (s : S) where
   fresh_inv w =
       record {
         strategy = refl;
+        seconds = refl;
         readings = refl;
         centre = refl;
         within = tt;
@@ -352,7 +360,7 @@ module _ {S : Type 0} (st : StrategyMeaning S) (f : Sheet) (s : S) where
         darkness = (dark_now (Second g a c ∷ h) m refl v, r.darkness);
         openings = (v.good.paced, r.openings);
         waits = (v.good.bound, r.waits);
-        heads = ((refl, ap (λ x. x.colour) l.3 ∙ sym colour), r.heads);
+        heads = (ap (λ x. x.colour) l.3 ∙ sym colour, r.heads);
       }
   law_holds (Line line before behind r c ∷ h) m l =
       let q = law_holds h l.0 l.1 in
@@ -388,3 +396,12 @@ module _ {S : Type 0} (st : StrategyMeaning S) (f : Sheet) (s : S) where
   cycle_shown_lem h m l =
       let v = inv h m l in
       running f (seen (log f st s h)) m.stage v.good.tied ∙ ap (λ p. cond (in_metering p) (cycle_now (log f st s h)) 0) (sym v.shown)
+
+  pub centre_lem : (h : History) (m : Model S) → WentThrough st f s h m → m.command.centre_cycle ≡ centres_cycle h
+  centre_lem h m l = sym (inv h m l).centre
+
+  pub strategy_lem : (h : History) (m : Model S) → WentThrough st f s h m → m.strategy ≡ state_after st s (closes f h)
+  strategy_lem h m l = sym (inv h m l).strategy
+
+  pub seconds_lem : (h : History) (m : Model S) → WentThrough st f s h m → m.counts.seconds ≡ min (length (log f st s h)) 4294967295
+  seconds_lem h m l = (inv h m l).seconds

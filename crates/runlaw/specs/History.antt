@@ -1,4 +1,4 @@
--- What a station went through: each act with all that it was given and answered, and the colour that the head means after it.
+-- What a station went through: each act with what it was given and answered (but for the rings, which other laws are about), and the colour that the head means after it.
 use Rattle.std.specs.Prelude.{◌≡◌, ℕ, List, [], ◌∷◌, length, Result}
 use Rattle.sheet.specs.declared.sheet.Sheet.{Sheet}
 use Rattle.strategy.specs.declared.strategy.Strategy.{Ghosts as StrategyMeaning}

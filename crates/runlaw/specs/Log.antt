@@ -14,7 +14,7 @@ use Rattle.orders.specs.declared.order.Order.{Order}
 use Rattle.orders.specs.declared.order.Order.TheVariants as order
 use Rattle.orders.specs.declared.fault.OrderFault.{OrderFault}
 use Rattle.orders.specs.Orders.{order_of}
-use Rattle.control.specs.Figures.{loop_figures}
+use Rattle.loops.specs.Source.{loop_figures}
 use Rattle.runlaw.specs.History.{History, Second, Line, Reset}
 
 pub record Row : Type 0 where

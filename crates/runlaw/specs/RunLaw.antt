@@ -132,9 +132,9 @@ Each P [] = Unit {0}
 Each P (r ∷ rs) = P (r ∷ rs) × Each P rs
 
 module _ {S : Type 0} (st : StrategyMeaning S) (f : Sheet) (s : S) where
-  -- 4. The head means the colour of the newest row after each act, and a second answers that colour.
+  -- 4. A second answers the colour that the head means after it, which is the newest row's; command lines and breaker resets leave the head with that colour.
   abbrev pub HeadAfter : Act → History → Type 0
-  HeadAfter (Second g a c) h = (c ≡ colour_now (log f st s (Second g a c ∷ h))) × (a.colour ≡ c)
+  HeadAfter (Second g a c) h = a.colour ≡ c
   HeadAfter (Line line before behind r c) h = c ≡ colour_now (log f st s h)
   HeadAfter (Reset r c) h = c ≡ colour_now (log f st s h)
 

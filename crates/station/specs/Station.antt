@@ -8,17 +8,18 @@ use Rattle.lamps.specs.declared.head.LampHead.{Ghosts as HeadMeaning}
 use Rattle.records.specs.declared.alarm.AlarmRecord.{AlarmRecord}
 use Rattle.records.specs.declared.period.PeriodRecord.{PeriodRecord}
 use Rattle.records.specs.declared.ring.Ring.{Ring}
+use Rattle.records.specs.Kept.{capped}
 use Rattle.orders.specs.Orders.{order_of}
 use Rattle.control.specs.declared.answer.Answer.{Answer}
 use Rattle.control.specs.declared.answer.Refused.{Refused}
 use Rattle.control.specs.declared.state.Command.{Command}
-use Rattle.control.specs.Figures.{loop_figures}
+use Rattle.loops.specs.Source.{loop_figures}
 use Rattle.control.specs.Lines.{line_answer, obeyed, buffer_after, after_reset, reset_answer}
 use Rattle.control.specs.Model.{Model, Given}
 use Rattle.control.specs.Phases.{phase_of, running_cycle}
 use Rattle.control.specs.Seconds.{after, answer, readings_after, period_put, alarm_put}
 use Rattle.runlaw.specs.History.{Act, History, WentThrough}
-use Rattle.runlaw.specs.Log.{colour_shown, phase_shown, cycle_shown}
+use Rattle.runlaw.specs.Log.{log, colour_shown, phase_shown, cycle_shown, centres_cycle, state_after, closes}
 use Rattle.runlaw.specs.RunLaw.{RunLaw}
 use Rattle.station.specs.declared.station.Station.{Station}
 use Rattle.station.specs.declared.station.field.View.{View}
@@ -61,7 +62,7 @@ pub record Stands {S H : Type 0} (t : Station S H) (ss : List Readings) : Type 0
   pub figures : t.tally.figures ≡ loop_figures t.sheet
 
 module _ {S H : Type 0} (st : StrategyMeaning S) (hd : HeadMeaning H) where
-  -- the station was opened with the strategy's state s, and went through exactly these acts
+  -- the station is what the rules make of these acts, from one that was opened with the strategy's state s
   abbrev pub Lived : Station S H → S → History → Type 0
   Lived t s h = (ss : List Readings) × Stands t ss × WentThrough st t.sheet s h (model hd t ss)
 
@@ -98,6 +99,10 @@ module _ {S H : Type 0} (st : StrategyMeaning S) (hd : HeadMeaning H) where
     pub colour : r.colour ≡ colour_shown t.sheet st s h
     pub phase : r.phase ≡ phase_shown t.sheet st s h
     pub cycle : r.cycle ≡ cycle_shown t.sheet st s h
+    -- so many seconds were counted as the log has rows; the centre's cycle and the strategy's state are those that an observer works out
+    pub seconds : r.seconds ≡ capped (length (log t.sheet st s h))
+    pub centre : t.command.centre_cycle ≡ centres_cycle h
+    pub strategy : t.strategy ≡ state_after st s (closes t.sheet h)
 
 -- what is seen of a station
 abbrev pub view_of : {S H : Type 0} → HeadMeaning H → Station S H → View

@@ -1,5 +1,5 @@
 use Rattle.std.proofs.Common.{◌∙◌}
-use Rattle.runlaw.proofs.Runs.{law_holds, colour_shown_lem, phase_shown_lem, cycle_shown_lem}
+use Rattle.runlaw.proofs.Runs.{law_holds, colour_shown_lem, phase_shown_lem, cycle_shown_lem, seconds_lem, centre_lem, strategy_lem}
 use Rattle.station.specs.Station.{model}
 use Rattle.station.proofs.station.Station.look.Goals as goal
 
@@ -24,5 +24,8 @@ returns g c =
             colour = c.ordered.ensures.value ∙ colour_shown_lem st f s h m l.2;
             phase = c.phase.ensures ∙ phase_shown_lem st f s h m l.2;
             cycle = c.running_cycle.ensures ∙ cycle_shown_lem st f s h m l.2;
+            seconds = seconds_lem st f s h m l.2;
+            centre = centre_lem st f s h m l.2;
+            strategy = strategy_lem st f s h m l.2;
           };
     }
