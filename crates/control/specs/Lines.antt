@@ -118,7 +118,7 @@ buffer_after (Ok reply) buffer = reply ++ drop (length reply) buffer
 abbrev pub reset_answer : {S : Type 0} → Model S → Result (Unit {0}) Refused
 reset_answer m = cond (is_tripped m.stage) (Ok tt) (Err refused.NotTripped)
 
--- it restores the head, and gives standby, local mode, not wanted and no centre's cycle
+-- it restores the head, and gives standby (in which no second was shown since), local mode, not wanted and no centre's cycle
 abbrev pub reset_taken : {S : Type 0} → Model S → Model S
 reset_taken m =
     record {

@@ -1,6 +1,7 @@
 -- The reference clock and the light of metering.
 use Rattle.std.specs.Prelude.{ℕ, ◌+◌, ◌-◌, min, Bool, cond, ◌&&◌, nat_lt}
 use Rattle.sheet.specs.declared.sheet.Sheet.{Sheet}
+use Rattle.records.specs.Kept.{count_after}
 use Rattle.control.specs.declared.stage.Light.{Light}
 use Rattle.control.specs.declared.stage.Light.TheVariants.{Flash, Amber, Red}
 use Rattle.control.specs.declared.stage.Meter.{Meter}
@@ -49,7 +50,7 @@ amber_step young m = Metering (lit (cond young Amber Red) (cond young (m.age + 1
 
 -- red stays, and its age grows
 abbrev pub red_stays : Meter → Stage
-red_stays m = Metering (lit Red (min (m.age + 1) 4294967295) m.arrears m)
+red_stays m = Metering (lit Red (count_after m.age) m.arrears m)
 
 -- an opening: arrears fall by one, and a window flash begins
 abbrev pub opening : Meter → Stage

@@ -1,4 +1,4 @@
--- What a station is, for its rules: nothing of how the program keeps it.
+-- What a station is, for its rules: the readings since the last close in place of the sums that a program keeps, and a head's meaning in place of a head.
 use Rattle.std.specs.Prelude.{ℕ, Bool, List}
 use Rattle.lamps.specs.declared.colour.Colour.{Colour}
 use Rattle.loops.specs.Rules.{Second}

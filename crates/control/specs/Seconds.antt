@@ -7,10 +7,11 @@ use Rattle.sheet.specs.declared.calendar.MinuteRange.{MinuteRange}
 use Rattle.strategy.specs.declared.measure.Measure.{Measure}
 use Rattle.strategy.specs.declared.strategy.Strategy.{Ghosts as StrategyMeaning}
 use Rattle.loops.specs.Rules.{Second, period_measure}
+use Rattle.loops.specs.Source.{loop_figures}
 use Rattle.lamps.specs.declared.colour.Colour.{Colour}
 use Rattle.lamps.specs.declared.colour.Colour.TheVariants as colour
 use Rattle.lamps.specs.Orders.{colour_after}
-use Rattle.records.specs.Kept.{count_after}
+use Rattle.records.specs.Kept.{capped, count_after}
 use Rattle.records.specs.declared.alarm.AlarmRecord.{AlarmRecord}
 use Rattle.records.specs.declared.period.PeriodRecord.{PeriodRecord}
 use Rattle.records.specs.declared.phase.Phase.{Phase}
@@ -25,7 +26,7 @@ use Rattle.control.specs.declared.state.Counts.{Counts}
 use Rattle.control.specs.declared.state.Mode.{Mode}
 use Rattle.control.specs.declared.state.Mode.TheVariants.{Local, Central}
 use Rattle.control.specs.declared.state.Queue.{Queue}
-use Rattle.control.specs.Figures.{TO1, t1, TO2, t2, service_seconds, loop_figures}
+use Rattle.control.specs.Figures.{TO1, t1, TO2, t2, service_seconds}
 use Rattle.control.specs.Model.{Model, Given}
 use Rattle.control.specs.Phases.{colour_of, phase_of, is_standby, is_tripped, is_draining}
 use Rattle.control.specs.Steps.{stepped}
@@ -105,7 +106,7 @@ abbrev pub under_at : Stage → Stage → ℕ → ℕ
 under_at before stage.Draining under = cond (is_draining before) under 0
 under_at before s under = under
 
--- the seconds shown since standby, with one of this phase; a tripped station counts on after its reset, from 0
+-- the seconds shown since standby, with one of this phase; a tripped station keeps them, until its reset makes them 0
 abbrev pub shown_after : Stage → ℕ → ℕ
 shown_after stage.Standby shown = 0
 shown_after stage.Tripped shown = shown
@@ -117,7 +118,7 @@ counts_after closed stage c =
     record {
       seconds = count_after c.seconds;
       periods = counted_if closed c.periods;
-      openings = min (cond closed 0 c.openings + openings_in stage) 4294967295;
+      openings = capped (cond closed 0 c.openings + openings_in stage);
       shown = shown_after stage c.shown;
     }
 

@@ -18,7 +18,7 @@ stepped f c Draining = cond c.wanted (cond c.cleared (OpeningAmber 1) Draining) 
 stepped f c (Closing t) = cond (nat_lt t (T3 f)) (Closing (t + 1)) Standby
 stepped f c Tripped = Tripped
 
--- a reference cycle begins in this second: metering starts, or the running one has lasted its length
+-- a reference cycle begins in this second, if it does not trip: metering starts, or the running one has lasted its length
 abbrev pub begins : Sheet → (wanted : Bool) → Stage → Bool
 begins f wanted (OpeningRed t) = not (nat_lt t (T2 f)) && wanted
 begins f wanted (Metering m) = not (runs m)

@@ -8,7 +8,7 @@ use Rattle.records.specs.declared.period.PeriodRecord.{PeriodRecord}
 use Rattle.records.specs.Codes.{code_number}
 use Rattle.observer.specs.declared.totals.Totals.{Totals}
 use Rattle.log_rows.specs.declared.second.SecondRow.{SecondRow}
-use Rattle.log_rows.specs.Fields.{colour_text, phase_text, sign_text, refusal_fields, trip_text}
+use Rattle.log_rows.specs.Fields.{colour_text, phase_text, sign_text, refused_text, trip_text}
 use Rattle.log_rows.specs.Rows.{fields_text, number_or_dash}
 
 -- second;NUMBER;COLOUR;PHASE;SIGN;TRIP;CYCLE
@@ -39,7 +39,7 @@ line_taken_text reply = codes "line;taken" ++ fields_text (reply ∷ [])
 
 -- line;refused;NUMBER;VALUE
 abbrev pub line_refused_text : Refusal → List ℕ
-line_refused_text r = codes "line;refused" ++ fields_text (refusal_fields r)
+line_refused_text r = codes "line;" ++ refused_text r
 
 -- reset;taken
 abbrev pub reset_taken_text : List ℕ
@@ -47,7 +47,7 @@ reset_taken_text = codes "reset;taken"
 
 -- reset;refused;NUMBER;VALUE
 abbrev pub reset_refused_text : Refusal → List ℕ
-reset_refused_text r = codes "reset;refused" ++ fields_text (refusal_fields r)
+reset_refused_text r = codes "reset;" ++ refused_text r
 
 -- trial;SECONDS;OPENINGS;LONGEST;TRIPS;REFUSALS
 abbrev pub totals_text : Totals → List ℕ

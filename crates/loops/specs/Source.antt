@@ -1,12 +1,19 @@
 -- Where the figures of the loops come from.
-use Rattle.std.specs.Prelude.{◌≡◌}
 use Rattle.sheet.specs.declared.sheet.Sheet.{Sheet}
 use Rattle.loops.specs.declared.figures.LoopFigures.{LoopFigures}
 
--- each figure is the sheet's
-pub record TakenFrom (sheet : Sheet) (f : LoopFigures) : Type 0 where
-  pub lanes : f.lanes ≡ sheet.draft.lanes
-  pub interval_seconds : f.interval_seconds ≡ sheet.draft.interval_seconds
-  pub period_intervals : f.period_intervals ≡ sheet.draft.period_intervals
-  pub availability : f.availability ≡ sheet.draft.availability
-  pub overcount : f.overcount ≡ sheet.draft.overcount
+-- the sheet's figures that the loops use
+abbrev pub loop_figures : Sheet → LoopFigures
+loop_figures f =
+    record {
+      lanes = f.draft.lanes;
+      interval_seconds = f.draft.interval_seconds;
+      period_intervals = f.draft.period_intervals;
+      availability = f.draft.availability;
+      overcount = f.draft.overcount;
+      lanes_within = f.lanes_within;
+      interval_seconds_within = f.interval_seconds_within;
+      period_intervals_within = f.period_intervals_within;
+      availability_within = f.availability_within;
+      overcount_within = f.overcount_within;
+    }

@@ -3,13 +3,13 @@ use Rattle.std.proofs.Common.{◌≡◌, ℕ, suc, ◌+◌, max, Bool, true, fal
 use Rattle.lamps.specs.declared.colour.Colour.{Colour}
 use Rattle.records.specs.declared.phase.Phase.{Phase}
 use Rattle.control.specs.Seconds.{counted_if}
-use Rattle.records.specs.Kept.{count_after}
+use Rattle.records.specs.Kept.{capped, count_after}
 use Rattle.runlaw.specs.Log.{Log, Row, in_metering}
 use Rattle.runlaw.specs.RunLaw.{is_flashing, is_red, is_opening, waits, waited}
 use Rattle.observer.specs.declared.observer.Observer.{Observer}
 use Rattle.observer.specs.declared.totals.Totals.{Totals}
 use Rattle.observer.specs.Steps.{wait_with, second_added}
-use Rattle.observer.specs.Totals.{capped, openings_in, longest_wait, trips_in, totals_of, observer_of, Shown}
+use Rattle.observer.specs.Totals.{openings_in, longest_wait, trips_in, totals_of, observer_of, Shown}
 
 pub one_more : (n : ℕ) → count_after (capped n) ≡ capped (suc n)
 one_more n = omega arith

@@ -1,16 +1,13 @@
 -- The totals of a run and what an observer keeps in mind of it, from the rows of its log and the number of its refused acts alone.
-use Rattle.std.specs.Prelude.{◌≡◌, ℕ, ◌+◌, min, max, Bool, cond, [], ◌∷◌, length, is_ok}
+use Rattle.std.specs.Prelude.{◌≡◌, ℕ, ◌+◌, max, Bool, cond, [], ◌∷◌, length, is_ok}
 use Rattle.lamps.specs.declared.colour.Colour.{Colour}
 use Rattle.records.specs.declared.phase.Phase.{Phase}
+use Rattle.records.specs.Kept.{capped}
 use Rattle.runlaw.specs.History.{History, Second, Line, Reset}
 use Rattle.runlaw.specs.Log.{Log, Row}
 use Rattle.runlaw.specs.RunLaw.{is_opening, waited, window_flash}
 use Rattle.observer.specs.declared.totals.Totals.{Totals}
 use Rattle.observer.specs.declared.observer.Observer.{Observer}
-
--- a count stops at its highest value
-abbrev pub capped : ℕ → ℕ
-capped n = min n 4294967295
 
 -- the openings: the rows that are the first of a window flash
 abbrev pub openings_in : Log → ℕ

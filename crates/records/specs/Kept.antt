@@ -2,13 +2,17 @@
 -- These rules give an answer for any two numbers, also for such as no ring over these places comes to.
 use Rattle.std.specs.Prelude.{ℕ, ◌+◌, ◌-◌, min, cond, List, [], ◌++◌, length, take, drop, nat_lt, slice_set}
 
--- a count grows by one, and stops at 4,294,967,295
+-- a count stops at 4,294,967,295
+abbrev pub capped : ℕ → ℕ
+capped n = min n 4294967295
+
+-- one more, as far as a count goes
 abbrev pub count_after : ℕ → ℕ
-count_after put = min (put + 1) 4294967295
+count_after put = capped (put + 1)
 
 -- a ring uses all its places, but no more than it can count
 abbrev pub room_of : {A : Type 0} → List A → ℕ
-room_of places = min (length places) 4294967295
+room_of places = capped (length places)
 
 -- where an element is put: behind those that are there until each place has one, and then at the next place, or at the first where that is none of the ring's
 abbrev pub place_of : (room next put : ℕ) → ℕ

@@ -1,7 +1,7 @@
 -- What is known of a draft's figures: the walk to the lowest outside its limits, and the facts of an accepted sheet.
 use Rattle.std.proofs.Common.{◌≡◌, ℕ, ◌+◌, ◌<◌, ◌≤◌, Bool, true, false, cond, ◌||◌, ltb, List, [], ◌∷◌, position, is_some, Some, None, Option, Ok, Err, refl, ap, ◌∙◌, arith, rules, ltb-false}
 use Rattle.std.specs.List.{zip, position_from}
-use Rattle.std.specs.Option.{option_map}
+use Rattle.std.specs.Option.{option_map, option_or}
 use Rattle.std.proofs.lemmas.Bool.Decides.{nat_tests}
 use Rattle.std.proofs.lemmas.Iterator.Adapters.{position_from-zero}
 use Rattle.sheet.specs.declared.draft.Draft.{Draft}
@@ -9,7 +9,7 @@ use Rattle.sheet.specs.declared.draft.Cause.{Cause}
 use Rattle.sheet.specs.declared.draft.Cause.TheVariants.{OutsideLimits}
 use Rattle.sheet.specs.Limits.{limits, lowest_outside, is_outside}
 use Rattle.sheet.specs.Draft.{figures_of}
-use Rattle.sheet.specs.Causes.{cause_of, cause_of_limits, cause_from, cause_of_pairs, checked}
+use Rattle.sheet.specs.Causes.{cause_of, cause_of_limits, cause_of_pairs, checked}
 
 -- a figure beside its limits lies outside them
 abbrev pub pair_outside : (ℕ × ℕ) × ℕ → Bool
@@ -36,14 +36,14 @@ no_cause (Some c) e = absurd cc
 pub limits_refuse : (d : Draft) (c : Cause) → Err c ≡ checked (cause_of_limits d) → Err c ≡ checked (cause_of d)
 unfolding cause_of
 limits_refuse d c e = from (lowest_outside 1 limits (figures_of d)) e where
-  from : (o : Option ℕ) → Err c ≡ checked (option_map OutsideLimits o) → Err c ≡ checked (cause_from o (cause_of_pairs d))
+  from : (o : Option ℕ) → Err c ≡ checked (option_map OutsideLimits o) → Err c ≡ checked (option_or (option_map OutsideLimits o) (cause_of_pairs d))
   from (Some k) h = h
   from None h = absurd cc
 
 pub limits_pass : (d : Draft) → Ok tt ≡ checked (cause_of_limits d) → checked (cause_of_pairs d) ≡ checked (cause_of d)
 unfolding cause_of
 limits_pass d e = from (lowest_outside 1 limits (figures_of d)) e where
-  from : (o : Option ℕ) → Ok tt ≡ checked (option_map OutsideLimits o) → checked (cause_of_pairs d) ≡ checked (cause_from o (cause_of_pairs d))
+  from : (o : Option ℕ) → Ok tt ≡ checked (option_map OutsideLimits o) → checked (cause_of_pairs d) ≡ checked (option_or (option_map OutsideLimits o) (cause_of_pairs d))
   from (Some k) h = absurd cc
   from None h = refl
 
@@ -67,7 +67,7 @@ within_then n (l ∷ ls) (f ∷ fs) Q q e =
     let h = one_more n l f (lowest_outside (n + 1) ls fs) (ltb f l.0) (ltb l.1 f) refl refl e in
     ((h.0, h.1), within_then (n + 1) ls fs Q q h.2)
 
-from_figures : (o : Option ℕ) (c : Option Cause) → is_some (cause_from o c) ≡ false → (is_some o ≡ false) × (is_some c ≡ false)
+from_figures : (o : Option ℕ) (c : Option Cause) → is_some (option_or (option_map OutsideLimits o) c) ≡ false → (is_some o ≡ false) × (is_some c ≡ false)
 from_figures (Some k) c e = absurd cc
 from_figures None c e = (refl, e)
 

@@ -1,6 +1,6 @@
 -- Which drafts are refused, with which cause, and how a cause is told.
 use Rattle.std.specs.Prelude.{ℕ, cond, Some, None, Option, Ok, Err, Result, nat_le}
-use Rattle.std.specs.Option.{option_map}
+use Rattle.std.specs.Option.{option_map, option_or}
 use Rattle.sheet.specs.declared.draft.Draft.{Draft}
 use Rattle.sheet.specs.declared.draft.Refusal.{Refusal}
 use Rattle.sheet.specs.declared.draft.Cause.{Cause}
@@ -24,16 +24,11 @@ cause_of_pairs d =
 abbrev pub cause_of_limits : Draft → Option Cause
 cause_of_limits d = option_map OutsideLimits (lowest_outside 1 limits (figures_of d))
 
--- a figure outside its limits comes before any other cause
-abbrev pub cause_from : Option ℕ → Option Cause → Option Cause
-cause_from (Some k) c = Some (OutsideLimits k)
-cause_from None c = c
-
--- why a draft is refused, or none where it is accepted
+-- why a draft is refused, or none where it is accepted: a figure outside its limits comes before any other cause
 unfoldable pub cause_of : Draft → Option Cause
-cause_of d = cause_from (lowest_outside 1 limits (figures_of d)) (cause_of_pairs d)
+cause_of d = option_or (cause_of_limits d) (cause_of_pairs d)
 
--- what a check answers where this cause is against the draft, or none
+-- what a check answers, where a cause is against the draft or none is
 abbrev pub checked : Option Cause → Result (Unit {0}) Cause
 checked None = Ok tt
 checked (Some c) = Err c

@@ -2,12 +2,11 @@ use Rattle.std.proofs.Common.{◌≡◌, [], refl}
 use Rattle.control.specs.declared.stage.Stage.TheVariants.{Standby}
 use Rattle.control.specs.Fresh.{fresh}
 use Rattle.station.specs.Station.{Stands}
-use Rattle.station.proofs.Loops.{figures_same}
 use Rattle.station.proofs.station.Station.open.Goals as goal
 
 pub returns : goal.returns
 returns g c =
-    let stands : Stands _ [] = record { holds = c.new-tally.ensures.empty; figures = figures_same c.args.sheet c.new-tally.result.figures c.new-tally.ensures.figures } in
+    let stands : Stands _ [] = record { holds = c.new-tally.ensures.empty; figures = c.new-tally.ensures.figures } in
     let same : _ ≡ fresh c.args.strategy (g.H.LampHead.shows c.args.head) = λ i.
     record {
       strategy = c.args.strategy;

@@ -5,7 +5,7 @@ use Rattle.lamps.specs.declared.colour.Colour.TheVariants.{Dark}
 use Rattle.lamps.specs.Orders.{colour_after}
 use Rattle.control.specs.declared.answer.Answer.{Answer}
 use Rattle.control.specs.declared.stage.Stage.TheVariants.{Tripped}
-use Rattle.control.specs.Figures.{loop_figures}
+use Rattle.loops.specs.Source.{loop_figures}
 use Rattle.control.specs.Phases.{phase_of, colour_of, is_tripped}
 use Rattle.control.specs.Seconds.{close_now, trip_now, strategy_now, queue_now, wanted_now, wanted_after, conditions, length_fixed, told_at, stage_by, head_by, under_at, counts_after, is_dark, period_record_of, alarm_record_of, period_put, alarm_put, readings_after}
 use Rattle.control.specs.Steps.{stepped, begins}
