@@ -29,7 +29,7 @@ use Rattle.control.specs.declared.state.Mode.TheVariants.{Local, Central}
 use Rattle.control.specs.declared.state.Queue.{Queue}
 use Rattle.control.specs.Figures.{JC}
 use Rattle.control.specs.Fresh.{fresh}
-use Rattle.control.specs.Lines.{line_answer, reply_of, reset_answer, after_reset, telling_of}
+use Rattle.control.specs.Lines.{line_answer, after_line, reply_of, reset_answer, after_reset, telling_of}
 use Rattle.control.specs.declared.stage.Conditions.{Conditions}
 use Rattle.control.specs.Metering.{started, clocked, lit, red_step, light_step}
 use Rattle.control.specs.Steps.{stepped}
@@ -78,6 +78,35 @@ tripped shows =
       stage = stage.Tripped;
       colour = colour.Dark;
       is_cut = true;
+      shows = shows;
+    }
+
+-- a station in standby, in central mode, wanted, with a centre's cycle of 60 seconds; and one that nothing was ordered of yet
+abbrev pub ordered : (ℕ → ℕ) → Model ℕ
+ordered shows =
+    record {
+      strategy = 0;
+      readings = [];
+      command = record { mode = Central; wanted = true; centre_cycle = Some 60 };
+      queue = record { over = 0; under = 0 };
+      counts = counted 0 0 0 0;
+      stage = stage.Standby;
+      colour = colour.Dark;
+      is_cut = false;
+      shows = shows;
+    }
+
+abbrev pub not_ordered : (ℕ → ℕ) → Model ℕ
+not_ordered shows =
+    record {
+      strategy = 0;
+      readings = [];
+      command = record { mode = Central; wanted = false; centre_cycle = None };
+      queue = record { over = 0; under = 0 };
+      counts = counted 0 0 0 0;
+      stage = stage.Standby;
+      colour = colour.Dark;
+      is_cut = false;
       shows = shows;
     }
 
@@ -244,7 +273,20 @@ pub record WorkedSteps : Type 0 where
   -- the reading of the cycles, in a reference cycle of 9 seconds with a window flash of 4, and outside metering
   pub cycles_in_metering : (f : Sheet) → f.draft.window_flash ≡ 4 → reply_of f (stage.Metering (red_of_nine 3)) order.Cycles ≡ codes "AM=F.1 CY=9 JC=4"
   pub cycles_in_draining : (f : Sheet) → f.draft.window_flash ≡ 4 → reply_of f stage.Draining order.Cycles ≡ codes "AM=F.1 CY=0 JC=4"
-  -- a tripped station refuses the off line with 8 and answers its letter; a buffer of no bytes is refused with 11, and 1 byte is needed
+  -- what a line that is taken makes of central mode, wanted and a centre's cycle of 60 seconds
+  pub after_central : (f : Sheet) (shows : ℕ → ℕ) → (after_line f (ordered shows) (codes "PA, AM=PIL, AF=PF/0") 80).command ≡ record { mode = Central; wanted = true; centre_cycle = Some 60 }
+  pub after_local : (f : Sheet) (shows : ℕ → ℕ) → (after_line f (ordered shows) (codes "PA, AM=PIL, AF=PF/1") 80).command ≡ record { mode = Local; wanted = true; centre_cycle = None }
+  pub after_off : (f : Sheet) (shows : ℕ → ℕ) → (after_line f (ordered shows) (codes "PM, EXTNORM") 80).command ≡ record { mode = Central; wanted = false; centre_cycle = Some 60 }
+  pub after_cycle : (f : Sheet) (shows : ℕ → ℕ) → (after_line f (not_ordered shows) (codes "PA, AM=F.1, CY=9") 80).command ≡ record { mode = Central; wanted = true; centre_cycle = Some 9 }
+  pub after_status : (f : Sheet) (shows : ℕ → ℕ) → (after_line f (ordered shows) (codes "P") 80).command ≡ record { mode = Central; wanted = true; centre_cycle = Some 60 }
+  -- a line that is refused makes nothing of them: no room for the answer, or a cycle in local mode
+  pub after_no_room : (f : Sheet) (shows : ℕ → ℕ) → after_line f (ordered shows) (codes "P") 0 ≡ ordered shows
+  pub after_local_cycle : (f : Sheet) (shows : ℕ → ℕ) → after_line f (just_opened shows) (codes "PA, AM=F.1, CY=9") 80 ≡ just_opened shows
+  -- a tripped station refuses the two mode lines and the cycle line with 8
+  pub central_when_tripped : (f : Sheet) (shows : ℕ → ℕ) → told (line_answer f (tripped shows) (codes "PA, AM=PIL, AF=PF/0") 80) ≡ Err (record { number = 8; value = None })
+  pub local_when_tripped : (f : Sheet) (shows : ℕ → ℕ) → told (line_answer f (tripped shows) (codes "PA, AM=PIL, AF=PF/1") 80) ≡ Err (record { number = 8; value = None })
+  pub cycle_when_tripped : (f : Sheet) (shows : ℕ → ℕ) → told (line_answer f (tripped shows) (codes "PA, AM=F.1, CY=60") 80) ≡ Err (record { number = 8; value = None })
+  -- so it does the off line, and answers its letter; a buffer of no bytes is refused with 11, and 1 byte is needed
   pub off_when_tripped : (f : Sheet) (shows : ℕ → ℕ) → told (line_answer f (tripped shows) (codes "PM, EXTNORM") 80) ≡ Err (record { number = 8; value = None })
   pub status_when_tripped : (f : Sheet) (shows : ℕ → ℕ) → told (line_answer f (tripped shows) (codes "P") 1) ≡ Ok (codes "H")
   pub no_room : (f : Sheet) (shows : ℕ → ℕ) → told (line_answer f (just_opened shows) (codes "P") 0) ≡ Err (record { number = 11; value = Some 1 })

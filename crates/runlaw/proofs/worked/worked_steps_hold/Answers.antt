@@ -119,6 +119,16 @@ returns c =
       letter_in_draining = λ f. refl;
       cycles_in_metering = λ f p. subst⁻¹ (λ x. codes "AM=F.1 CY=" ++ (decimal 9 ++ (codes " JC=" ++ decimal x)) ≡ codes "AM=F.1 CY=9 JC=4") p (one_digit_each 9 4 (omega (arith)) (omega (arith)));
       cycles_in_draining = λ f p. subst⁻¹ (λ x. codes "AM=F.1 CY=" ++ (decimal 0 ++ (codes " JC=" ++ decimal x)) ≡ codes "AM=F.1 CY=0 JC=4") p (one_digit_each 0 4 (omega (arith)) (omega (arith)));
+      after_central = λ f shows. refl;
+      after_local = λ f shows. refl;
+      after_off = λ f shows. refl;
+      after_cycle = λ f shows. refl;
+      after_status = λ f shows. refl;
+      after_no_room = λ f shows. refl;
+      after_local_cycle = λ f shows. refl;
+      central_when_tripped = λ f shows. refl;
+      local_when_tripped = λ f shows. refl;
+      cycle_when_tripped = λ f shows. refl;
       off_when_tripped = λ f shows. refl;
       status_when_tripped = λ f shows. refl;
       no_room = λ f shows. refl;
