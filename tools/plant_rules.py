@@ -46,7 +46,7 @@ NAMED = [
     ("arrears grow by two", "control", "Metering", "min (m.arrears + 1) most_arrears", "min (m.arrears + 2) most_arrears"),
     ("arrears grow in every second", "control", "Metering", "arrears = cond goes_on m.arrears (min", "arrears = cond goes_on (m.arrears + 1) (min"),
     ("more arrears are kept", "control", "Metering", "most_arrears = 60000", "most_arrears = 60001"),
-    ("arrears are cleared at entry", "control", "Steps", "(metered f c started)", "(metered f c (lit Red 0 0 started))"),
+    ("arrears are cleared at entry", "control", "Steps", "(metered f c started)", "(light_step f c Red (lit Red 0 0 (clocked c.length started)))"),
     ("metering starts with one in arrears", "control", "Metering", "lasted = 0; arrears = 0 }", "lasted = 0; arrears = 1 }"),
     ("opening red counts for the red age", "control", "Metering", "started = record { light = Red; age = 0;", "started = record { light = Red; age = 1;"),
     ("a reference cycle is a second longer", "control", "Metering", "runs m = nat_lt m.lasted m.length", "runs m = nat_le m.lasted m.length"),
@@ -86,7 +86,7 @@ NAMED = [
     ("the second of a close begins the next period", "control", "Seconds", "readings_after f ss rs = cond (is_whole f (ss ++ rs ∷ [])) [] (ss ++ rs ∷ [])", "readings_after f ss rs = cond (is_whole f (ss ++ rs ∷ [])) (rs ∷ []) (ss ++ rs ∷ [])"),
     ("the strategy's cycle comes before the centre's", "control", "Seconds", "length_fixed (Some n) cycle = n", "length_fixed (Some n) cycle = cycle"),
     ("no centre's cycle gives a cycle of 60", "control", "Seconds", "length_fixed None cycle = cycle", "length_fixed None cycle = 60"),
-    ("a second that trips opens nothing, and keeps the colour", "control", "Seconds", "is_cut = trips || m.is_cut", "is_cut = m.is_cut"),
+    ("a trip leaves the head uncut", "control", "Seconds", "is_cut = trips || m.is_cut", "is_cut = m.is_cut"),
     ("draining keeps the under-count", "control", "Seconds", "under_at before stage.Draining under = cond (is_draining before) under 0", "under_at before stage.Draining under = under"),
     ("draining holds the under-count at 0", "control", "Seconds", "under_at before stage.Draining under = cond (is_draining before) under 0", "under_at before stage.Draining under = 0"),
     ("a queue reading of 1,001 counts", "control", "Seconds", "under = counted_to (t2 f) (nat_le reading 1000 &&", "under = counted_to (t2 f) (nat_le reading 1001 &&"),
@@ -101,11 +101,12 @@ NAMED = [
     ("a shortest service of one second more", "control", "Seconds", "nat_lt shown (service_seconds f)", "nat_le shown (service_seconds f)"),
     ("the second of a trip settles wanted", "control", "Seconds", "wanted = cond (is_tripped (stage_by trips)) m.command.wanted wanted_now", "wanted = wanted_now"),
     ("an opening is counted in every second of a window flash", "control", "Seconds", "opening_by light.Flash age = cond (age == 1) 1 0", "opening_by light.Flash age = 1"),
-    ("an opening at a close is the old record's", "control", "Seconds", "openings = min (cond closed 0 c.openings + openings_in stage) 4294967295", "openings = cond closed 0 (min (c.openings + openings_in stage) 4294967295)"),
+    ("an opening at a close is the old record's", "control", "Seconds", "openings = capped (cond closed 0 c.openings + openings_in stage)", "openings = cond closed 0 (capped (c.openings + openings_in stage))"),
     ("the seconds shown go on in standby", "control", "Seconds", "shown_after stage.Standby shown = 0", "shown_after stage.Standby shown = shown"),
-    ("a period record has the cycle of before", "control", "Seconds", "        cycle = st.cycle strategy_now;\n        openings = m.counts.openings;", "        cycle = st.cycle m.strategy;\n        openings = m.counts.openings;"),
-    ("an alarm record has the phase after the trip", "control", "Seconds", "lamp = t.lamp; phase = phase_of m.stage }", "lamp = t.lamp; phase = phase_of (stage_by true) }"),
-    ("an alarm record has the second number of before", "control", "Seconds", "record { second = count_after m.counts.seconds;", "record { second = m.counts.seconds;"),
+    ("a period record has the cycle of before", "control", "Seconds", "(period_record_of (minute_of g) (st.cycle strategy_now)", "(period_record_of (minute_of g) (st.cycle m.strategy)"),
+    ("an opening of the second of a close is the closing record's", "control", "Seconds", "minute = minute; measure = measure; cycle = cycle; openings = c.openings }", "minute = minute; measure = measure; cycle = cycle; openings = c.openings + 1 }"),
+    ("an alarm record has the phase after the trip", "control", "Seconds", "(alarm_record_of m.counts (phase_of m.stage))", "(alarm_record_of m.counts (phase_of (stage_by true)))"),
+    ("an alarm record has the second number of before", "control", "Seconds", "record { second = count_after c.seconds;", "record { second = c.seconds;"),
     ("an alarm tells the ordered lamp", "control", "Trips", "cond (is_in lamp lit) (record { code = Unwanted; lamp = unwanted })", "cond (is_in lamp lit) (record { code = Unwanted; lamp = lamp })"),
     ("an alarm tells the highest lamp", "control", "Trips", "lowest_unwanted lit c = cond (is_unwanted lit c Red) Red (cond (is_unwanted lit c FixedAmber) FixedAmber FlashingAmber)", "lowest_unwanted lit c = cond (is_unwanted lit c FlashingAmber) FlashingAmber (cond (is_unwanted lit c FixedAmber) FixedAmber Red)"),
     ("the trip codes are exchanged", "control", "Trips", "(record { code = Unwanted; lamp = unwanted }) (record { code = NotLit; lamp = lamp })", "(record { code = NotLit; lamp = unwanted }) (record { code = Unwanted; lamp = lamp })"),
@@ -124,8 +125,8 @@ NAMED = [
     ("the cycle line is taken in local mode", "control", "Lines", "in_mode Local = Some refused.LocalMode", "in_mode Local = None"),
     ("a tripped station takes lines", "control", "Lines", "refused_by tripped mode (order.Cycle n) = cond tripped (Some refused.Tripped) (in_mode mode)", "refused_by tripped mode (order.Cycle n) = in_mode mode"),
     ("local mode comes before tripped", "control", "Lines", "refused_by tripped mode order.Off = cond tripped (Some refused.Tripped) (in_mode mode)", "refused_by tripped mode order.Off = cond tripped (Some refused.LocalMode) (in_mode mode)"),
-    ("a status letter of another phase", "control", "Lines", "status_letter stage.Draining = 83", "status_letter stage.Draining = 86"),
-    ("the cycles reading has the window amber", "control", "Lines", '(codes " JC=" ++ decimal (JC f))', '(codes " JC=" ++ decimal (JF f))'),
+    ("a status letter of another phase", "control", "Lines", "status_letter stage.Tripped = 72", "status_letter stage.Tripped = 86"),
+    ("the cycles reading has the window amber", "control", "Lines", "cycles_text (running_cycle s) (JC f)", "cycles_text (running_cycle s) (JF f)"),
     ("a reply needs a byte to spare", "control", "Lines", "cond (nat_lt room (length reply))", "cond (nat_le room (length reply))"),
     ("a fresh station is wanted", "control", "Fresh", "command = record { mode = Local; wanted = false;", "command = record { mode = Local; wanted = true;"),
     ("a fresh head is cut", "control", "Fresh", "is_cut = false;", "is_cut = true;"),
@@ -281,25 +282,47 @@ def edits_of(tree, crate, variants, only):
     return found
 
 
-def named(tree):
+# names that an edit may bring in, and where they come from
+IMPORTS = {
+    "nat_le": "Rattle.std.specs.Prelude",
+    "true": "Rattle.std.specs.Prelude",
+    " - ": "Rattle.std.specs.Prelude",
+    " || ": "Rattle.std.specs.Prelude",
+    "lit": "Rattle.control.specs.Metering",
+    "light_step": "Rattle.control.specs.Metering",
+    "clocked": "Rattle.control.specs.Metering",
+    "JF": "Rattle.control.specs.Figures",
+    "Red": "Rattle.control.specs.declared.stage.Light.TheVariants",
+}
+
+
+def imported(text, new):
+    """The text with imports of the names that the edit brings in."""
+    for name, module in IMPORTS.items():
+        if not re.search(rf"(?<![\w.]){re.escape(name)}(?![\w])" if name.strip() == name else re.escape(name), new):
+            continue
+        word = {" - ": "◌-◌", " || ": "◌||◌"}.get(name, name)
+        own = re.search(rf"^use {re.escape(module)}\.\{{([^}}]*)\}}", text, re.M)
+        if re.search(rf"^(?:abbrev |unfoldable )?pub {re.escape(word)} :", text, re.M) or re.search(rf"^use [^\n]*[{{ ,]{re.escape(word)}[,}}]", text, re.M):
+            continue
+        if own:
+            text = text[: own.end() - 1] + f", {word}" + text[own.end() - 1 :]
+        else:
+            text = re.sub(r"^use ", f"use {module}.{{{word}}}\nuse ", text, count=1, flags=re.M)
+    return text
+
+
+def named(tree, only):
     found = {}
     for what, crate, file, old, new in NAMED:
+        if only not in what:
+            continue
         path = f"specs/{file}.antt"
         text = open(f"{tree}/crates/{crate}/{path}", encoding="utf-8").read()
         if text.count(old) != 1:
             print(f"{what}: its text stands in {path} {text.count(old)} times", file=sys.stderr)
             continue
-        after = text.replace(old, new)
-        if "lit Red" in new:
-            after = after.replace("Metering.{started, runs, metered}", "Metering.{started, runs, metered, lit}").replace(
-                "use Rattle.control.specs.Figures", "use Rattle.control.specs.declared.stage.Light.TheVariants.{Red}\nuse Rattle.control.specs.Figures"
-            )
-        if "nat_le m." in new:
-            after = after.replace("nat_lt}", "nat_lt, nat_le}", 1)
-        if "nat_le t " in new or "nat_le room" in new:
-            after = after.replace("nat_lt}", "nat_lt, nat_le}", 1)
-        if "||" in new and file == "Trips":
-            after = after.replace("◌&&◌, Some", "◌&&◌, ◌||◌, Some", 1)
+        after = imported(text.replace(old, new), new)
         line = text[: text.index(old)].count("\n")
         found[what] = [Edit(crate, path, what, line, "named", old, new, after)]
     return found
@@ -383,7 +406,7 @@ def main():
     for case, others in shapes.variants.items():
         variants.setdefault(case.split("::")[1], []).extend(it.split("::")[1] for it in others)
     if given.named:
-        chosen = {"named": named(given.tree)}
+        chosen = {"named": named(given.tree, given.only)}
     else:
         chosen = {crate: edits_of(given.tree, crate, variants, given.only) for crate in given.crates or STEPS}
     if given.list:
@@ -405,7 +428,7 @@ def main():
             copies.put(f"{room}/{k}")
         with concurrent.futures.ThreadPoolExecutor(given.jobs) as pool:
             for name, found in chosen.items():
-                try_all(name, found, given.bugs, copies, pool, given.jobs, random.Random(f"{given.seed} {name}"), out)
+                try_all(name, found, 0 if given.named else given.bugs, copies, pool, given.jobs, random.Random(f"{given.seed} {name}"), out)
     finally:
         shutil.rmtree(room, ignore_errors=True)
     return 0
