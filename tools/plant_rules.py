@@ -18,6 +18,7 @@ program is there to differ from its definition, and what notices a bug is a theo
     run law      the run law is no longer proved
     figures      a worked figure no longer holds
     laws         the laws of command lines are no longer proved
+    records      what a second's records have to do with the station behind it is no longer proved
     none         all of them are still proved
     no text      the copy does not read the definition, so the bug does not count
 """
@@ -38,8 +39,8 @@ import plant
 
 BELOW = "decimals sheet strategy loops lamps records orders reply control".split()
 STEPS = "strategy loops lamps orders control runlaw".split()
-THEOREM = re.compile(r"\bfn (laws_hold|run_law_stands|worked_\w+)\b")
-NOTICED = {"laws_hold": "laws", "run_law_stands": "run law", "worked_figures_hold": "figures", "worked_steps_hold": "figures"}
+THEOREM = re.compile(r"\bfn (laws_hold|run_law_stands|record_laws_hold|worked_\w+)\b")
+NOTICED = {"laws_hold": "laws", "run_law_stands": "run law", "record_laws_hold": "records", "worked_figures_hold": "figures", "worked_steps_hold": "figures"}
 
 # Misreadings of a step: what is misread, and the edit of a definition.
 NAMED = [

@@ -290,7 +290,12 @@ pub record WorkedSteps : Type 0 where
   pub off_when_tripped : (f : Sheet) (shows : ℕ → ℕ) → told (line_answer f (tripped shows) (codes "PM, EXTNORM") 80) ≡ Err (record { number = 8; value = None })
   pub status_when_tripped : (f : Sheet) (shows : ℕ → ℕ) → told (line_answer f (tripped shows) (codes "P") 1) ≡ Ok (codes "H")
   pub no_room : (f : Sheet) (shows : ℕ → ℕ) → told (line_answer f (just_opened shows) (codes "P") 0) ≡ Err (record { number = 11; value = Some 1 })
-  -- a fresh station refuses a breaker reset with 10
+  -- a fresh station: standby, local mode, not wanted, no centre's cycle, a dark head that is not cut, all counts 0
+  pub fresh_command : (shows : ℕ → ℕ) → (just_opened shows).command ≡ record { mode = Local; wanted = false; centre_cycle = None }
+  pub fresh_stage : (shows : ℕ → ℕ) → (just_opened shows).stage ≡ stage.Standby
+  pub fresh_head : (shows : ℕ → ℕ) → ((just_opened shows).colour ≡ colour.Dark) × ((just_opened shows).is_cut ≡ false)
+  pub fresh_counts : (shows : ℕ → ℕ) → ((just_opened shows).counts ≡ counted 0 0 0 0) × ((just_opened shows).queue ≡ record { over = 0; under = 0 })
+  -- it refuses a breaker reset with 10
   pub nothing_to_reset : (shows : ℕ → ℕ) → reset_answer (just_opened shows) ≡ Err NotTripped
   pub reset_refusal : telling_of NotTripped ≡ record { number = 10; value = None }
   -- a tripped one takes it: standby, local mode, not wanted, no centre's cycle, a dark head that is not cut, and nothing shown since standby
