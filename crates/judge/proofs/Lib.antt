@@ -1,0 +1,3 @@
+pub mod Counting
+pub mod Breaches
+pub mod Loops

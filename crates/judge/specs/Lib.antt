@@ -1,0 +1,4 @@
+pub mod Course
+pub mod Breach
+pub mod Centre
+pub mod Judged

@@ -1,0 +1,50 @@
+// What the centre's lines have set.
+ghost use Rattle.std.specs.Prelude.{◌≡◌, Ok};
+ghost use Rattle.orders.specs.declared.order.Order.{Order};
+ghost use Rattle.runlaw.specs.Log.{cycle_by_line, length_by};
+ghost use Rattle.judge.specs.Centre.{mode_by_line};
+
+use control::state::Mode;
+use orders::order::Order;
+use strategy::strategy::Strategy;
+
+// The mode, and the centre's cycle if it is set.
+#[derive(Clone, Copy, Default)]
+pub(crate) struct Centre {
+    pub(crate) mode: Mode,
+    pub(crate) cycle: Option<u32>,
+}
+
+impl Centre {
+    // What an order that was taken makes of it.
+    pub(crate) fn after(self, order: Order) -> Centre
+        ensures mode { result.mode ≡ mode_by_line (Ok order) self.mode }
+        ensures cycle { result.cycle ≡ cycle_by_line (Ok order) self.cycle }
+    {
+        match order {
+            Order::Central => Centre {
+                mode: Mode::Central,
+                ..self
+            },
+            Order::Local => Centre {
+                mode: Mode::Local,
+                cycle: None,
+            },
+            Order::Cycle(cycle) => Centre {
+                cycle: Some(cycle),
+                ..self
+            },
+            Order::Off | Order::Status | Order::Cycles => self,
+        }
+    }
+
+    // The length of a reference cycle that begins now: the centre's cycle if set, else the strategy's.
+    pub(crate) fn length<S: Strategy>(self, strategy: &S) -> u32
+        ensures { result ≡ length_by self.cycle (S.Strategy.cycle strategy.now) }
+    {
+        match self.cycle {
+            Some(cycle) => cycle,
+            None => strategy.ask(),
+        }
+    }
+}

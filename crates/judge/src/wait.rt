@@ -1,0 +1,59 @@
+// A wait: the seconds up to the newest of metered red with a vehicle at the line.
+ghost use Rattle.std.specs.Prelude.{◌≡◌, ◌<◌, cond, ◌∷◌, Decides, length};
+ghost use Rattle.records.specs.Kept.{count_after};
+ghost use Rattle.runlaw.specs.Log.{Log, Row};
+ghost use Rattle.runlaw.specs.RunLaw.{waits, Waits};
+ghost use Rattle.judge.specs.Course.{wait_of};
+
+use records::putting::count_after;
+use sheet::sheet::Sheet;
+
+// The longest wait that any sheet and any reference cycle allow.
+const LONGEST: u32 = 115;
+
+// Whether the newest second is of a wait, the seconds of the wait so far, and the reference cycle that ran in its first second.
+#[derive(Clone, Copy, Default)]
+pub(crate) struct Wait {
+    pub(crate) waits: bool,
+    pub(crate) seconds: u32,
+    pub(crate) cycle: u32,
+}
+
+// The seconds of a wait: one more if it goes on, else none.
+fn wait_with(goes_on: bool, seconds: u32) -> u32
+    ensures { result ≡ cond goes_on (count_after seconds) 0 }
+{
+    if goes_on { count_after(seconds) } else { 0 }
+}
+
+impl Wait {
+    // The reference cycle of the wait: the one of its first second, which is the next if none waits now.
+    fn cycle_with(self, next: u32) -> u32
+        ensures { result ≡ cond self.waits self.cycle next }
+    {
+        if self.waits { self.cycle } else { next }
+    }
+
+    // The wait after one second more: is it of a wait, and which reference cycle runs in it?
+    pub(crate) fn after(self, goes_on: bool, cycle: u32) -> Wait
+        ensures { (r : Row) (rs : Log) → length rs < 4294967295 → waits r ≡ goes_on → r.cycle ≡ cycle → self ≡ wait_of rs → result ≡ wait_of (r ∷ rs) }
+    {
+        Wait {
+            waits: goes_on,
+            seconds: wait_with(goes_on, self.seconds),
+            cycle: self.cycle_with(cycle),
+        }
+    }
+
+    // Is the wait no longer than the minimum red or its reference cycle less the window, whichever is more, nor than the longest?
+    pub(crate) fn is_short(self, sheet: &Sheet) -> bool
+        ensures { (rs : Log) → self ≡ wait_of rs → Decides result (Waits sheet.now rs) }
+    {
+        let figures = sheet.figures();
+        let closed = self
+            .cycle
+            .saturating_sub(figures.window_flash)
+            .saturating_sub(figures.window_amber);
+        self.seconds <= figures.minimum_red.max(closed) && self.seconds <= LONGEST
+    }
+}
