@@ -8,6 +8,7 @@ mod clock;
 mod course;
 pub mod judge;
 mod spell;
+mod standing;
 mod stretch;
 pub mod verdict;
 mod wait;
