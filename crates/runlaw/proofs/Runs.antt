@@ -405,3 +405,7 @@ module _ {S : Type 0} (st : StrategyMeaning S) (f : Sheet) (s : S) where
 
   pub seconds_lem : (h : History) (m : Model S) → WentThrough st f s h m → m.counts.seconds ≡ min (length (log f st s h)) 4294967295
   seconds_lem h m l = (inv h m l).seconds
+
+  -- a station is tripped exactly while a trip stands that no breaker reset has ended
+  pub tripped_shown_lem : (h : History) (m : Model S) → WentThrough st f s h m → is_tripped m.stage ≡ (not (reset_since h) && trip_stands (log f st s h))
+  tripped_shown_lem h m l = sym (inv h m l).stands
