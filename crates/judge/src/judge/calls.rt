@@ -1,8 +1,8 @@
 // The calls of a judge.
-ghost use Rattle.std.specs.Prelude.{◌≡◌, List, [], ◌∷◌, length, is_ok, nat_lt, Decides, IfOk, IfErr, Option};
-ghost use Rattle.strategy.specs.declared.measure.Measure.{Measure};
+ghost use Rattle.std.specs.Prelude.{◌≡◌, true, [], length, is_ok, nat_lt, Decides, IfOk, IfErr};
+ghost use Rattle.control.specs.Model.{Model};
 ghost use Rattle.control.specs.Seconds.{told_at};
-ghost use Rattle.runlaw.specs.History.{History};
+ghost use Rattle.runlaw.specs.History.{History, WentThrough};
 ghost use Rattle.runlaw.specs.Log.{log};
 ghost use Rattle.runlaw.specs.RunLaw.{Heads, RunLaw};
 ghost use Rattle.judge.specs.Breach.{Told};
@@ -116,8 +116,10 @@ impl<S: Strategy> Judge<S> {
     }
 
     // Does the run keep the run law? A recorder's log has one colour for each second, so the head is taken to mean the colour answered.
+    // A run that a station of the rules went through does.
     pub fn keeps_law(&self) -> bool
-        ensures { (s : S) (h : History) → Judged S.Strategy self.now s h → Heads S.Strategy self.now.sheet s h → Decides result (RunLaw S.Strategy self.now.sheet s h) }
+        ensures law { (s : S) (h : History) → Judged S.Strategy self.now s h → Heads S.Strategy self.now.sheet s h → Decides result (RunLaw S.Strategy self.now.sheet s h) }
+        ensures cleared { (s : S) (h : History) (m : Model S) → Judged S.Strategy self.now s h → WentThrough S.Strategy self.now.sheet s h m → result ≡ true }
     {
         self.verdict.is_clean()
     }
