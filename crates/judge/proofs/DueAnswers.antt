@@ -13,7 +13,7 @@ use Rattle.control.specs.declared.stage.Stage.TheVariants as stage
 use Rattle.control.specs.declared.state.Command.{Command}
 use Rattle.control.specs.declared.state.Mode.{Mode}
 use Rattle.control.specs.declared.state.Mode.TheVariants.{Local}
-use Rattle.control.specs.Lines.{line_answer, line_answer_by, obeyed, status_letter, answered_by, refused_by, reset_taken}
+use Rattle.control.specs.Lines.{line_answer, answer_to, obeyed, status_letter, answered_by, refused_by, reset_taken}
 use Rattle.control.specs.Model.{Model}
 use Rattle.control.specs.Phases.{phase_of, running_cycle, is_tripped}
 use Rattle.runlaw.specs.History.{History, Second, Line, Reset, WentThrough}
@@ -74,7 +74,7 @@ module _ {S : Type 0} (st : StrategyMeaning S) (f : Sheet) where
   abbrev standing_at : Model S → Standing
   standing_at m = record { is_tripped = is_tripped m.stage; mode = m.command.mode; phase = phase_of m.stage; cycle = running_cycle m.stage }
 
-  answer_same : (m : Model S) (room : ℕ) (o : Result Order OrderFault) → line_answer_by f m room o ≡ answer_due f (standing_at m) room o
+  answer_same : (m : Model S) (room : ℕ) (o : Result Order OrderFault) → answer_to f m.stage m.command.mode room o ≡ answer_due f (standing_at m) room o
   answer_same m room (Err e) = refl
   answer_same m room (Ok order.Central) = refl
   answer_same m room (Ok order.Local) = refl

@@ -1,39 +1,16 @@
 -- The judge's loops: their figures are the sheet's, and a second closes a period where the log's words say it.
 use Rattle.std.proofs.Common.{◌≡◌, ℕ, ◌*◌, ◌%◌, ◌<◌, true, false, cond, ltb, List, [], ◌∷◌, length, Some, None, Option, sym, ap, ◌∙◌, subst, mul_comm, lt-ltb, arith}
 use Rattle.std.proofs.lemmas.Bool.{le-ltb}
-use mathlib.Core.HLevel.{is_prop→PathP}
-use native.Mathlib.Bridge.{le_prop}
 use Rattle.sheet.specs.declared.sheet.Sheet.{Sheet}
-use Rattle.sheet.specs.Limits.{Within}
 use Rattle.strategy.specs.declared.measure.Measure.{Measure}
 use Rattle.strategy.specs.declared.strategy.Strategy.{Ghosts as StrategyMeaning}
 use Rattle.loops.specs.declared.figures.LoopFigures.{LoopFigures}
 use Rattle.loops.specs.declared.tally.PeriodTally.{PeriodTally}
 use Rattle.loops.specs.Held.{Holds, After}
 use Rattle.loops.specs.Rules.{Second, period_measure}
-use Rattle.loops.specs.Source.{TakenFrom}
-use Rattle.control.specs.Figures.{loop_figures}
+use Rattle.loops.specs.Source.{loop_figures}
 use Rattle.control.specs.Seconds.{told_at}
 use Rattle.runlaw.specs.Log.{Close, whole_period, until_whole, closing, state_after}
-
-within_prop : (k : ℕ) {f : ℕ} (p q : Within k f) → p ≡ q
-within_prop k p q = λ i. (le_prop p.0 q.0 i, le_prop p.1 q.1 i)
-
--- the figures of the loops are those of the sheet
-pub figures_same : (s : Sheet) (f : LoopFigures) → TakenFrom s f → f ≡ loop_figures s
-figures_same s f t = λ i.
-    record {
-      lanes = t.lanes i;
-      interval_seconds = t.interval_seconds i;
-      period_intervals = t.period_intervals i;
-      availability = t.availability i;
-      overcount = t.overcount i;
-      lanes_within = is_prop→PathP (λ j. Within 13 (t.lanes j)) (λ j. within_prop 13) f.lanes_within s.lanes_within i;
-      interval_seconds_within = is_prop→PathP (λ j. Within 14 (t.interval_seconds j)) (λ j. within_prop 14) f.interval_seconds_within s.interval_seconds_within i;
-      period_intervals_within = is_prop→PathP (λ j. Within 15 (t.period_intervals j)) (λ j. within_prop 15) f.period_intervals_within s.period_intervals_within i;
-      availability_within = is_prop→PathP (λ j. Within 16 (t.availability j)) (λ j. within_prop 16) f.availability_within s.availability_within i;
-      overcount_within = is_prop→PathP (λ j. Within 17 (t.overcount j)) (λ j. within_prop 17) f.overcount_within s.overcount_within i;
-    }
 
 -- what the loops and the strategy are after a second, where ss are the readings since the last close, with this second's
 pub record Tallied {S : Type 0} (st : StrategyMeaning S) (f : Sheet) (after : PeriodTally) (ss : List Second) (r : Option (Option Measure)) : Type 0 where

@@ -7,7 +7,7 @@ use Rattle.lamps.specs.declared.colour.Colour.{Colour}
 use Rattle.records.specs.declared.phase.Phase.{Phase}
 use Rattle.control.specs.declared.answer.Answer.{Answer}
 use Rattle.control.specs.declared.answer.Refused.{Refused}
-use Rattle.control.specs.Figures.{loop_figures}
+use Rattle.loops.specs.Source.{loop_figures}
 use Rattle.control.specs.Model.{Given}
 use Rattle.runlaw.specs.History.{History, Second, Line, Reset}
 use Rattle.runlaw.specs.Log.{state_after, closes, since_close, reset_since, log}

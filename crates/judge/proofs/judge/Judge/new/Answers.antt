@@ -1,5 +1,4 @@
 use Rattle.std.proofs.Common.{refl}
-use Rattle.judge.proofs.Loops.{figures_same}
 use Rattle.judge.proofs.judge.Judge.new.Goals as goal
 
 pub returns-clause-judged : goal.returns-clause-judged
@@ -8,7 +7,7 @@ returns-clause-judged g c =
     record {
       strategy = refl;
       readings = c.new-tally.ensures.empty;
-      figures = figures_same f c.new-tally.result.figures c.new-tally.ensures.figures;
+      figures = c.new-tally.ensures.figures;
       centre = λ i. record { mode = c.default.ensures.0 i; cycle = c.default.ensures.1 i };
       reset = refl;
       course = c.new.ensures;

@@ -1,7 +1,7 @@
 use Rattle.std.proofs.Common.{◌≡◌, ◌%◌, ◌<◌, ◌++◌, [], ◌∷◌, length, is_some, List, sym, refl, ap, ◌∙◌, subst, arith}
 use Rattle.loops.specs.Held.{After}
 use Rattle.loops.specs.Rules.{Second as Readings}
-use Rattle.control.specs.Figures.{loop_figures}
+use Rattle.loops.specs.Source.{loop_figures}
 use Rattle.control.specs.Seconds.{told_at}
 use Rattle.runlaw.specs.History.{Second}
 use Rattle.runlaw.specs.Log.{Log, Row, row, log, closes, closing, since_close, state_after, length_by, length_fixed, reset_since}
