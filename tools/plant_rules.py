@@ -5,7 +5,7 @@
 
 CRATE       whose definitions get bugs (those that the theorems of `orders` and `runlaw` stand on, if none is named)
 --bugs N    how many bugs a crate gets that still read as definitions (24); with more definitions one for each
---only WORD plants only in definitions whose file, line and name contain WORD
+--only WORD plants only in definitions whose file, line and name contain WORD; with --named, only misreadings whose name has this pattern
 --jobs N    how many copies of the tree to work in side by side (1)
 --seed N    another choice of bugs (1)
 --named     plants the misreadings that this file names, and no others
@@ -316,7 +316,7 @@ def imported(text, new):
 def named(tree, only):
     found = {}
     for what, crate, file, old, new in NAMED:
-        if only not in what:
+        if not re.search(only, what):
             continue
         path = f"specs/{file}.antt"
         text = open(f"{tree}/crates/{crate}/{path}", encoding="utf-8").read()
@@ -331,7 +331,7 @@ def named(tree, only):
 
 def outcome_of(ran, others):
     said = (ran.stdout + others).split("\n")
-    theorems = sorted({NOTICED[it] for it in re.findall(r"fn \w+::(?:\w+::)*(\w+): not proved", ran.stdout + others) if it in NOTICED})
+    theorems = sorted({NOTICED[it] for it in re.findall(r"fn \w+::(?:\w+::)*(\w+): (?:not proved|no proof)", ran.stdout + others) if it in NOTICED})
     first = next((it for it in said if re.match(r"(\./)?\S+:\d+:\d+: error", it) or "error[" in it), "")
     if theorems:
         return " and ".join(theorems), first
