@@ -1,0 +1,285 @@
+// A recorded log, judged by the run law: the plan tells what each act was given, the log what it answered.
+use crate::plan::{Plan, Player, Purpose};
+use crate::recorded::{Recorded, RecordedLog, SecondRecorded, read_recorded};
+use crate::stop::Stop;
+use control::answer::Refused;
+use judge::judge::{Judge, Seen};
+use judge::verdict::Verdict;
+use lamps::head::LampWords;
+use log_rows::acts::{LineRefused, LineTaken, ResetRefused, ResetTaken};
+use plan::row::Row;
+use plan::text::without_end;
+use replay::act::{Act, LineAct, SecondAct};
+use sheet::draft::Refusal;
+use sheet::sheet::Sheet;
+use std::alloc::Global;
+use std::io::{self, Read, Write};
+use strategy::strategy::Strategy;
+
+// How many acts against the rules are told, at most.
+const MOST_TOLD: u64 = 10;
+
+// The rows at which the parts of the law were first broken.
+#[derive(Clone, Copy, Default)]
+struct Rows {
+    succession: Option<u64>,
+    darkness: Option<u64>,
+    openings: Option<u64>,
+    waits: Option<u64>,
+}
+
+// The row of a breach, where there is one: the row told before, or else this one.
+fn row_of(told: Option<u64>, breach: Option<u32>, row: u64) -> Option<u64> {
+    told.or(breach.map(|_| row))
+}
+
+impl Rows {
+    // The rows with the breaches of this verdict, which was given after this row.
+    fn with(self, verdict: Verdict, row: u64) -> Rows {
+        Rows {
+            succession: row_of(self.succession, verdict.succession, row),
+            darkness: row_of(self.darkness, verdict.darkness, row),
+            openings: row_of(self.openings, verdict.openings, row),
+            waits: row_of(self.waits, verdict.waits, row),
+        }
+    }
+}
+
+// Tells whether a part of the law is kept, and where it is first broken.
+fn tell_part<W: Write>(
+    out: &mut W,
+    part: &str,
+    second: Option<u32>,
+    row: Option<u64>,
+) -> io::Result<()> {
+    match (second, row) {
+        (Some(second), Some(row)) => {
+            writeln!(out, "{part}: broken, first in second {second}, row {row}")
+        }
+        _ => writeln!(out, "{part}: kept"),
+    }
+}
+
+// What a command line is due to answer, as a row.
+fn write_line_due<W: Write>(
+    out: &mut W,
+    due: Result<usize, Refused>,
+    buffer: &[u8],
+) -> io::Result<()> {
+    match due {
+        Ok(bytes) => writeln!(out, "{}", LineTaken(&buffer[..bytes.min(buffer.len())])),
+        Err(refused) => writeln!(out, "{}", LineRefused(refused.refusal())),
+    }
+}
+
+// What a breaker reset is due to answer, as a row.
+fn write_reset_due<W: Write>(out: &mut W, due: Result<(), Refused>) -> io::Result<()> {
+    match due {
+        Ok(()) => writeln!(out, "{ResetTaken}"),
+        Err(refused) => writeln!(out, "{}", ResetRefused(refused.refusal())),
+    }
+}
+
+// Judging the recorded log that is read from here, telling what is found there.
+#[derive(Drop)]
+pub(crate) struct Judging<L, W> {
+    recorded: RecordedLog<L>,
+    due: Vec<u8>,
+    rows: Rows,
+    against: u64,
+    out: W,
+}
+
+impl<L: Read + Drop, W: Write + Drop> Judging<L, W> {
+    // The recorded log that is read from here.
+    pub(crate) fn new(heap: Global, recorded: L, out: W) -> Result<Judging<L, W>, Stop> {
+        Ok(Judging {
+            recorded: RecordedLog::new(heap, recorded)?,
+            due: Vec::new(heap),
+            rows: Rows::default(),
+            against: 0,
+            out,
+        })
+    }
+
+    // The next recorded act. Rows of other kinds are passed over.
+    fn next_act(&mut self) -> Result<Option<Recorded>, Stop> {
+        // A count, since a `while let` owes a measure that falls, and no contract says that input ends.
+        for _ in 0..u64::MAX {
+            if !self.recorded.advance()? {
+                break;
+            }
+            match read_recorded(self.recorded.row()) {
+                Recorded::Other => {}
+                said => return Ok(Some(said)),
+            }
+        }
+        Ok(None)
+    }
+
+    // The end at the row read last, where another one was expected.
+    fn unlike(&self, expected: &'static str) -> Stop {
+        Stop::Recorded(self.recorded.number(), expected)
+    }
+
+    // The next recorded act, which has to be a second.
+    fn next_second(&mut self) -> Result<SecondRecorded, Stop> {
+        match self.next_act()? {
+            Some(Recorded::Second(second)) => Ok(second),
+            _ => Err(self.unlike("the row of a second")),
+        }
+    }
+
+    // The next recorded act, which has to be a command line: was it taken?
+    fn next_line(&mut self) -> Result<bool, Stop> {
+        match self.next_act()? {
+            Some(Recorded::Line(taken)) => Ok(taken),
+            _ => Err(self.unlike("the row of a command line")),
+        }
+    }
+
+    // The next recorded act, which has to be a breaker reset: was it taken?
+    fn next_reset(&mut self) -> Result<bool, Stop> {
+        match self.next_act()? {
+            Some(Recorded::Reset(taken)) => Ok(taken),
+            _ => Err(self.unlike("the row of a breaker reset")),
+        }
+    }
+
+    // Holds the row read last against the one that is due.
+    fn hold_due(&mut self) -> Result<(), Stop> {
+        let recorded = self.recorded.row();
+        let due = without_end(self.due.as_slice());
+        if recorded != due {
+            if self.against < MOST_TOLD {
+                write!(self.out, "row {}: due is ", self.recorded.number())?;
+                self.out.write_all(due)?;
+                write!(self.out, ", recorded is ")?;
+                self.out.write_all(recorded)?;
+                writeln!(self.out)?;
+            }
+            self.against = self.against.saturating_add(1);
+        }
+        self.due.clear();
+        Ok(())
+    }
+
+    // Tells the verdict.
+    fn tell(&mut self, verdict: Verdict) -> io::Result<()> {
+        let rows = self.rows;
+        let out = &mut self.out;
+        tell_part(out, "succession", verdict.succession, rows.succession)?;
+        tell_part(out, "darkness", verdict.darkness, rows.darkness)?;
+        tell_part(out, "openings", verdict.openings, rows.openings)?;
+        tell_part(out, "waits", verdict.waits, rows.waits)?;
+        writeln!(out, "heads: not judged, a log has no colour of the head")?;
+        writeln!(out, "lines and resets: {} against the rules", self.against)?;
+        out.flush()
+    }
+
+    // The end of the log, which has to have no further acts, and the verdict.
+    fn end(&mut self, verdict: Verdict, keeps_law: bool) -> Result<(), Stop> {
+        if self.next_act()?.is_some() {
+            return Err(self.unlike("the end of the acts"));
+        }
+        self.tell(verdict)?;
+        if keeps_law && self.against == 0 {
+            Ok(())
+        } else {
+            Err(Stop::Differs)
+        }
+    }
+}
+
+// A judge, and what it judges.
+#[derive(Drop)]
+struct Judged<'a, S, L, W> {
+    judge: Judge<S>,
+    judging: &'a mut Judging<L, W>,
+}
+
+impl<S: Strategy, L: Read + Drop, W: Write + Drop> Judged<'_, S, L, W> {
+    // A second.
+    fn second(&mut self, second: &SecondAct<'_>) -> Result<(), Stop> {
+        let SecondRecorded {
+            colour,
+            phase,
+            trips,
+        } = self.judging.next_second()?;
+        let seen = Seen {
+            presence: second.presence,
+            minute: second.minute,
+            lanes: second.lanes,
+            colour,
+            phase,
+            trips,
+        };
+        if self.judge.second(seen).is_err() {
+            return Err(self.judging.unlike("no further second, there are 4294967295"));
+        }
+        let row = self.judging.recorded.number();
+        self.judging.rows = self.judging.rows.with(self.judge.verdict(), row);
+        Ok(())
+    }
+
+    // A command line.
+    fn line(&mut self, line: &LineAct<'_>) -> Result<(), Stop> {
+        let taken = self.judging.next_line()?;
+        let mut buffer = [0; 1_000];
+        let room = line.room.min(1_000);
+        let due = self.judge.due_line(line.text, &mut buffer[..room]);
+        write_line_due(&mut self.judging.due, due, &buffer[..room])?;
+        self.judging.hold_due()?;
+        self.judge.line(line.text, taken);
+        Ok(())
+    }
+
+    // A breaker reset.
+    fn reset(&mut self) -> Result<(), Stop> {
+        let taken = self.judging.next_reset()?;
+        write_reset_due(&mut self.judging.due, self.judge.due_reset())?;
+        self.judging.hold_due()?;
+        self.judge.reset(taken);
+        Ok(())
+    }
+}
+
+impl<S: Strategy, L: Read + Drop, W: Write + Drop> Player for Judged<'_, S, L, W> {
+    fn act(&mut self, act: Act<'_>) -> Result<(), Stop> {
+        match act {
+            Act::Second(second) => self.second(&second),
+            Act::Line(line) => self.line(&line),
+            Act::Reset => self.reset(),
+        }
+    }
+
+    fn end(&mut self) -> Result<(), Stop> {
+        let verdict = self.judge.verdict();
+        self.judging.end(verdict, self.judge.keeps_law())
+    }
+}
+
+impl<L: Read + Drop, W: Write + Drop> Purpose for Judging<L, W> {
+    fn play<R: Read + Drop, S: Strategy + Drop, H: LampWords + Drop>(
+        &mut self,
+        plan: &mut Plan<R>,
+        first: &Row,
+        sheet: Sheet,
+        strategy: S,
+        _head: H,
+    ) -> Result<(), Stop> {
+        let mut judged = Judged {
+            judge: Judge::new(sheet, strategy),
+            judging: self,
+        };
+        plan.play(&mut judged, first)
+    }
+
+    fn nothing(&mut self) -> Result<(), Stop> {
+        self.end(Verdict::default(), true)
+    }
+
+    fn refused(&mut self, refusal: Refusal) -> Result<(), Stop> {
+        Err(Stop::NothingPlayed(refusal.number, refusal.figure))
+    }
+}

@@ -1,0 +1,127 @@
+// The picture of a run, as SVG: colours, acts, presence, queue and reference cycle over the seconds.
+use crate::frame::{frame_end, frame_start};
+use crate::stop::Stop;
+use crate::strip::{Line, Strip};
+use crate::watch::Watch;
+use lamps::colour::Colour;
+use observer::totals::Totals;
+use replay::act::{Act, SecondAct};
+use replay::answered::{Answered, Outcome, SecondOutcome};
+use sheet::draft::Refusal;
+use station::station::field::View;
+use std::alloc::Global;
+use std::io::{self, Write};
+
+// What is drawn of the seconds so far, and where the picture goes once their number is known.
+#[derive(Drop)]
+pub(crate) struct Picture<W> {
+    seconds: u64,
+    colours: Strip,
+    marks: Vec<u8>,
+    presence: Strip,
+    queue: Line,
+    cycle: Line,
+    out: W,
+}
+
+// The fill of a colour's stretch.
+fn fill(colour: Colour) -> &'static str {
+    match colour {
+        Colour::Dark => "#555",
+        Colour::Red => "#d22",
+        Colour::FixedAmber => "#e80",
+        Colour::FlashingAmber => "#fd5",
+    }
+}
+
+// The fill of a stretch with a vehicle at the line, or without one.
+fn presence_fill(presence: bool) -> &'static str {
+    if presence { "#36a" } else { "none" }
+}
+
+// The colour of the mark of an act that can be refused.
+fn mark(taken: bool) -> &'static str {
+    if taken { "#36a" } else { "#d22" }
+}
+
+impl<W: Write + Drop> Picture<W> {
+    // The picture of a run that has not begun.
+    pub(crate) fn new(heap: Global, out: W) -> Picture<W> {
+        Picture {
+            seconds: 0,
+            colours: Strip::new(heap, 0, 50),
+            marks: Vec::new(heap),
+            presence: Strip::new(heap, 130, 16),
+            queue: Line::new(heap, 230, 70, 1_000),
+            cycle: Line::new(heap, 330, 80, 120),
+            out,
+        }
+    }
+
+    // Draws a mark of this colour from a height down, at the moment.
+    fn mark(&mut self, top: u32, height: u32, colour: &str) -> io::Result<()> {
+        let at = self.seconds;
+        writeln!(
+            self.marks,
+            "<path d=\"M{at} {top}v{height}\" stroke=\"{colour}\"/>"
+        )
+    }
+
+    // A second: what was given, and what it answered.
+    fn second(
+        &mut self,
+        second: &SecondAct<'_>,
+        outcome: &SecondOutcome,
+        view: View,
+    ) -> io::Result<()> {
+        let at = self.seconds;
+        self.colours.second(at, fill(view.colour))?;
+        self.presence.second(at, presence_fill(second.presence))?;
+        self.queue.second(at, second.queue_ms)?;
+        self.cycle.second(at, view.cycle)?;
+        self.seconds = at.saturating_add(1);
+        if outcome.alarm.is_some() {
+            self.mark(56, 20, "#000")?;
+        }
+        if outcome.period.is_some() {
+            self.mark(104, 16, "#888")?;
+        }
+        Ok(())
+    }
+}
+
+impl<W: Write + Drop> Watch for Picture<W> {
+    fn answered(&mut self, act: &Act<'_>, answered: &Answered) -> Result<(), Stop> {
+        match (act, &answered.outcome) {
+            (Act::Second(second), Outcome::Second(outcome)) => {
+                self.second(second, outcome, answered.view)?;
+            }
+            (_, Outcome::Line(reply)) => self.mark(80, 16, mark(reply.is_ok()))?,
+            (_, Outcome::Reset(reset)) => self.mark(56, 20, mark(reset.is_ok()))?,
+            _ => {}
+        }
+        Ok(())
+    }
+
+    fn closed(&mut self, _totals: Totals) -> Result<(), Stop> {
+        let at = self.seconds;
+        self.colours.end(at)?;
+        self.presence.end(at)?;
+        frame_start(&mut self.out, at)?;
+        self.out.write_all(self.colours.shapes.as_slice())?;
+        self.out.write_all(self.presence.shapes.as_slice())?;
+        self.out.write_all(self.marks.as_slice())?;
+        write!(self.out, "<path d=\"M0 230")?;
+        self.out.write_all(self.queue.path.as_slice())?;
+        writeln!(self.out, "H{at}\" stroke=\"#36a\"/>")?;
+        write!(self.out, "<path d=\"M0 330")?;
+        self.out.write_all(self.cycle.path.as_slice())?;
+        writeln!(self.out, "H{at}\" stroke=\"#063\"/>")?;
+        frame_end(&mut self.out, at)?;
+        Ok(self.out.flush()?)
+    }
+
+    fn refused(&mut self, refusal: Refusal) -> Result<(), Stop> {
+        Err(Stop::NothingPlayed(refusal.number, refusal.figure))
+    }
+}

@@ -1,0 +1,15 @@
+// Those who watch a plan being played.
+use crate::stop::Stop;
+use observer::totals::Totals;
+use replay::act::Act;
+use replay::answered::Answered;
+use sheet::draft::Refusal;
+
+// Who watches sees each act with its answer, in their order, and then the totals; or that the sheet is refused.
+pub(crate) trait Watch {
+    fn answered(&mut self, act: &Act<'_>, answered: &Answered) -> Result<(), Stop>;
+
+    fn closed(&mut self, totals: Totals) -> Result<(), Stop>;
+
+    fn refused(&mut self, refusal: Refusal) -> Result<(), Stop>;
+}
