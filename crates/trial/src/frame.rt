@@ -62,7 +62,8 @@ pub(crate) fn frame_start<W: Write>(out: &mut W, seconds: u64) -> io::Result<()>
 
 // A mark of the time axis, so many seconds after the beginning: hours, minutes and seconds.
 fn write_time<W: Write>(out: &mut W, at: u64, span: u64) -> io::Result<()> {
-    let x = LEFT.saturating_add(at.saturating_mul(WIDTH) / span);
+    let along = at.saturating_mul(WIDTH).checked_div(span).unwrap_or(0);
+    let x = LEFT.saturating_add(along);
     let hours = at / 3_600;
     let (m, n) = two(at / 60 % 60);
     let (s, t) = two(at % 60);

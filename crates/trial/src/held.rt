@@ -103,7 +103,6 @@ impl<L: Read + Drop, W: Write + Drop> Held<L, W> {
             differing,
         } = self.tally;
         writeln!(self.out, "{agreeing} rows agree, {differing} differ")?;
-        self.out.flush()?;
         if self.tally.all_agree() {
             Ok(())
         } else {
@@ -126,5 +125,9 @@ impl<L: Read + Drop, W: Write + Drop> Watch for Held<L, W> {
     fn refused(&mut self, refusal: Refusal) -> Result<(), Stop> {
         write_refused(&mut self.expected, refusal)?;
         self.end()
+    }
+
+    fn flush(&mut self) -> Result<(), Stop> {
+        Ok(self.out.flush()?)
     }
 }

@@ -1,6 +1,6 @@
 // A recorded log, judged by the run law: the plan tells what each act was given, the log what it answered.
 use crate::plan::{Plan, Player, Purpose};
-use crate::recorded::{Recorded, RecordedLog, SecondRecorded, read_recorded};
+use crate::recorded::{Recorded, RecordedLog, SecondRecorded, read_recorded, without_end};
 use crate::stop::Stop;
 use control::answer::Refused;
 use judge::judge::{Judge, Seen};
@@ -8,7 +8,6 @@ use judge::verdict::Verdict;
 use lamps::head::LampWords;
 use log_rows::acts::{LineRefused, LineTaken, ResetRefused, ResetTaken};
 use plan::row::Row;
-use plan::text::without_end;
 use replay::act::{Act, LineAct, SecondAct};
 use sheet::draft::Refusal;
 use sheet::sheet::Sheet;
@@ -173,8 +172,7 @@ impl<L: Read + Drop, W: Write + Drop> Judging<L, W> {
         tell_part(out, "openings", verdict.openings, rows.openings)?;
         tell_part(out, "waits", verdict.waits, rows.waits)?;
         writeln!(out, "heads: not judged, a log has no colour of the head")?;
-        writeln!(out, "lines and resets: {} against the rules", self.against)?;
-        out.flush()
+        writeln!(out, "lines and resets: {} against the rules", self.against)
     }
 
     // The end of the log, which has to have no further acts, and the verdict.
@@ -193,12 +191,12 @@ impl<L: Read + Drop, W: Write + Drop> Judging<L, W> {
 
 // A judge, and what it judges.
 #[derive(Drop)]
-struct Judged<'a, S, L, W> {
+struct Judged<S, L, W> {
     judge: Judge<S>,
-    judging: &'a mut Judging<L, W>,
+    judging: Judging<L, W>,
 }
 
-impl<S: Strategy, L: Read + Drop, W: Write + Drop> Judged<'_, S, L, W> {
+impl<S: Strategy, L: Read + Drop, W: Write + Drop> Judged<S, L, W> {
     // A second.
     fn second(&mut self, second: &SecondAct<'_>) -> Result<(), Stop> {
         let SecondRecorded {
@@ -244,7 +242,7 @@ impl<S: Strategy, L: Read + Drop, W: Write + Drop> Judged<'_, S, L, W> {
     }
 }
 
-impl<S: Strategy, L: Read + Drop, W: Write + Drop> Player for Judged<'_, S, L, W> {
+impl<S: Strategy, L: Read + Drop, W: Write + Drop> Player for Judged<S, L, W> {
     fn act(&mut self, act: Act<'_>) -> Result<(), Stop> {
         match act {
             Act::Second(second) => self.second(&second),
@@ -257,29 +255,35 @@ impl<S: Strategy, L: Read + Drop, W: Write + Drop> Player for Judged<'_, S, L, W
         let verdict = self.judge.verdict();
         self.judging.end(verdict, self.judge.keeps_law())
     }
+
+    fn flush(&mut self) -> Result<(), Stop> {
+        Ok(self.judging.out.flush()?)
+    }
 }
 
 impl<L: Read + Drop, W: Write + Drop> Purpose for Judging<L, W> {
     fn play<R: Read + Drop, S: Strategy + Drop, H: LampWords + Drop>(
-        &mut self,
+        self,
         plan: &mut Plan<R>,
         first: &Row,
         sheet: Sheet,
         strategy: S,
         _head: H,
     ) -> Result<(), Stop> {
-        let mut judged = Judged {
+        let judged = Judged {
             judge: Judge::new(sheet, strategy),
             judging: self,
         };
-        plan.play(&mut judged, first)
+        plan.play(judged, first)
     }
 
-    fn nothing(&mut self) -> Result<(), Stop> {
-        self.end(Verdict::default(), true)
+    fn nothing(mut self) -> Result<(), Stop> {
+        let judged = self.end(Verdict::default(), true);
+        self.out.flush()?;
+        judged
     }
 
-    fn refused(&mut self, refusal: Refusal) -> Result<(), Stop> {
+    fn refused(self, refusal: Refusal) -> Result<(), Stop> {
         Err(Stop::NothingPlayed(refusal.number, refusal.figure))
     }
 }

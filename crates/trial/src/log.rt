@@ -24,4 +24,8 @@ impl<W: Write> Watch for Log<W> {
     fn refused(&mut self, refusal: Refusal) -> Result<(), Stop> {
         Ok(write_refused(&mut self.0, refusal)?)
     }
+
+    fn flush(&mut self) -> Result<(), Stop> {
+        Ok(self.0.flush()?)
+    }
 }

@@ -1,36 +1,116 @@
-// trial: replays a plan and writes its log.
+// trial: replays a plan, and writes its log or holds a recorded one against it.
 #![tactic(auto)]
 
-mod drive;
+mod frame;
+mod held;
+mod judged;
+mod log;
+mod picture;
+mod plan;
+mod played;
+mod recorded;
 mod rows;
 mod stop;
+mod strip;
 mod told;
+mod watch;
 mod written;
 
-use crate::drive::run;
-use crate::stop::Stop;
+use crate::held::Held;
+use crate::judged::Judging;
+use crate::log::Log;
+use crate::picture::Picture;
+use crate::plan::{Plan, Purpose};
+use crate::played::Playing;
+use crate::stop::{Stop, USAGE};
 use std::env;
 use std::fs::File;
+use std::io::{BufWriter, Read, Write};
 use std::process::ExitCode;
 
-// The plan of the one argument, or that of standard input.
+// Opens a file.
+fn open(rt: &HostRuntime, path: String) -> Result<File, Stop> {
+    File::open(rt, path.as_str()).map_err(|e| Stop::Unreadable(path, e))
+}
+
+// Plays the plan that is read from here, and writes its log. What was written before a fault stays written.
+fn run<R: Read + Drop>(rt: &HostRuntime, from: R, needed: bool) -> Result<(), Stop> {
+    let log = Log(BufWriter::new(rt.alloc(), rt.stdout())?);
+    Plan::new(rt.alloc(), from)?.play_for(Playing(log), needed)
+}
+
+// Plays a plan, and holds a recorded log against it.
+fn hold(rt: &HostRuntime, plan: String, log: String) -> Result<(), Stop> {
+    let plan = open(rt, plan)?;
+    let log = open(rt, log)?;
+    let out = BufWriter::new(rt.alloc(), rt.stdout())?;
+    let held = Held::new(rt.alloc(), log, out)?;
+    Plan::new(rt.alloc(), plan)?.play_for(Playing(held), false)
+}
+
+// Judges a recorded log of a plan.
+fn judge(rt: &HostRuntime, plan: String, log: String) -> Result<(), Stop> {
+    let plan = open(rt, plan)?;
+    let log = open(rt, log)?;
+    let out = BufWriter::new(rt.alloc(), rt.stdout())?;
+    let judging = Judging::new(rt.alloc(), log, out)?;
+    Plan::new(rt.alloc(), plan)?.play_for(judging, false)
+}
+
+// Plays a plan, and draws the run.
+fn draw(rt: &HostRuntime, plan: String) -> Result<(), Stop> {
+    let plan = open(rt, plan)?;
+    let out = BufWriter::new(rt.alloc(), rt.stdout())?;
+    let picture = Picture::new(rt.alloc(), out);
+    Plan::new(rt.alloc(), plan)?.play_for(Playing(picture), false)
+}
+
+// Writes how the program is used.
+fn help(rt: &HostRuntime) -> Result<(), Stop> {
+    let mut out = rt.stdout();
+    writeln!(out, "{USAGE}")?;
+    Ok(())
+}
+
+// A command with its plan, and with a recorded log where it takes one.
+fn command(
+    rt: &HostRuntime,
+    command: &str,
+    plan: String,
+    log: Option<String>,
+) -> Result<(), Stop> {
+    match (command, log) {
+        ("picture", None) => draw(rt, plan),
+        ("hold", Some(log)) => hold(rt, plan, log),
+        ("judge", Some(log)) => judge(rt, plan, log),
+        _ => Err(Stop::Usage),
+    }
+}
+
+// What the arguments ask for.
 fn start(rt: &HostRuntime) -> Result<(), Stop> {
     let mut args = env::args(rt)?;
     let _program = args.next();
-    match (args.next(), args.next()) {
-        (None, _) => run(rt, rt.stdin(), true),
-        (Some(path), None) => {
-            let file = File::open(rt, path.as_str()).map_err(|e| Stop::Unreadable(path, e))?;
-            run(rt, file, false)
-        }
-        (Some(_), Some(_)) => Err(Stop::Usage),
+    let Some(first) = args.next() else {
+        return run(rt, rt.stdin(), true);
+    };
+    let Some(plan) = args.next() else {
+        return match first.as_str() {
+            "--help" => help(rt),
+            _ => run(rt, open(rt, first)?, false),
+        };
+    };
+    let log = args.next();
+    match args.next() {
+        None => command(rt, first.as_str(), plan, log),
+        Some(_) => Err(Stop::Usage),
     }
 }
 
 fn main(rt: HostRuntime) -> ExitCode {
     match start(&rt) {
         Ok(()) => ExitCode::SUCCESS,
-        Err(Stop::SheetRefused) => ExitCode::FAILURE,
+        Err(Stop::SheetRefused(_) | Stop::Differs) => ExitCode::FAILURE,
         Err(stop) => {
             let _ = eprintln!(rt; "{stop}");
             ExitCode::FAILURE

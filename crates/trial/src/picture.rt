@@ -117,11 +117,14 @@ impl<W: Write + Drop> Watch for Picture<W> {
         write!(self.out, "<path d=\"M0 330")?;
         self.out.write_all(self.cycle.path.as_slice())?;
         writeln!(self.out, "H{at}\" stroke=\"#063\"/>")?;
-        frame_end(&mut self.out, at)?;
-        Ok(self.out.flush()?)
+        Ok(frame_end(&mut self.out, at)?)
     }
 
     fn refused(&mut self, refusal: Refusal) -> Result<(), Stop> {
         Err(Stop::NothingPlayed(refusal.number, refusal.figure))
+    }
+
+    fn flush(&mut self) -> Result<(), Stop> {
+        Ok(self.out.flush()?)
     }
 }

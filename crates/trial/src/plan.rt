@@ -23,13 +23,16 @@ pub(crate) trait Player {
     fn act(&mut self, act: Act<'_>) -> Result<(), Stop>;
 
     fn end(&mut self) -> Result<(), Stop>;
+
+    // What was written so far is to be seen, whatever comes.
+    fn flush(&mut self) -> Result<(), Stop>;
 }
 
 // What a plan is played for.
 pub(crate) trait Purpose {
     // Plays the plan from its first act on, with what stands before that.
     fn play<R: Read + Drop, S: Strategy + Drop, H: LampWords + Drop>(
-        &mut self,
+        self,
         plan: &mut Plan<R>,
         first: &Row,
         sheet: Sheet,
@@ -38,10 +41,10 @@ pub(crate) trait Purpose {
     ) -> Result<(), Stop>;
 
     // The plan has no acts.
-    fn nothing(&mut self) -> Result<(), Stop>;
+    fn nothing(self) -> Result<(), Stop>;
 
     // The plan's sheet is refused, and with it the plan.
-    fn refused(&mut self, refusal: Refusal) -> Result<(), Stop>;
+    fn refused(self, refusal: Refusal) -> Result<(), Stop>;
 }
 
 // The plan that is read, with the calendar at the moment.
@@ -92,8 +95,8 @@ impl<R: Read + Drop> Plan<R> {
         }
     }
 
-    // Plays the acts of the plan, from the first on, to the end.
-    pub(crate) fn play<P: Player>(&mut self, player: &mut P, first: &Row) -> Result<(), Stop> {
+    // Plays the acts of the plan, from the first on.
+    fn play_acts<P: Player>(&mut self, player: &mut P, first: &Row) -> Result<(), Stop> {
         self.do_row(player, first)?;
         // A count, since a `while let` owes a measure that falls, and no contract says that input ends.
         for _ in 0..u64::MAX {
@@ -105,10 +108,21 @@ impl<R: Read + Drop> Plan<R> {
         player.end()
     }
 
-    // The same, with the lamp head that the plan asks for.
-    fn do_with_head<P: Purpose, S: Strategy + Drop>(
+    // The same, and lets be seen what was written before a fault.
+    pub(crate) fn play<P: Player + Drop>(
         &mut self,
-        purpose: &mut P,
+        mut player: P,
+        first: &Row,
+    ) -> Result<(), Stop> {
+        let played = self.play_acts(&mut player, first);
+        player.flush()?;
+        played
+    }
+
+    // The same, with the lamp head that the plan asks for.
+    fn do_with_head<P: Purpose + Drop, S: Strategy + Drop>(
+        &mut self,
+        purpose: P,
         first: &Row,
         sheet: Sheet,
         strategy: S,
@@ -121,9 +135,9 @@ impl<R: Read + Drop> Plan<R> {
     }
 
     // The same, under the limiters of the plan.
-    fn do_limited<P: Purpose, S: Strategy + Drop>(
+    fn do_limited<P: Purpose + Drop, S: Strategy + Drop>(
         &mut self,
-        purpose: &mut P,
+        purpose: P,
         first: &Row,
         opening: Opening,
         strategy: S,
@@ -146,9 +160,9 @@ impl<R: Read + Drop> Plan<R> {
     }
 
     // The acts of a plan, from the first on, with what stands before it.
-    fn do_opened<P: Purpose>(
+    fn do_opened<P: Purpose + Drop>(
         &mut self,
-        purpose: &mut P,
+        purpose: P,
         first: &Row,
         opening: Opening,
     ) -> Result<(), Stop> {
@@ -207,29 +221,25 @@ impl<R: Read + Drop> Plan<R> {
     }
 
     // Plays the plan, from its first row to its last. `needed` says that a plan without a single row is none.
-    fn play_all<P: Purpose>(&mut self, purpose: &mut P, needed: bool) -> Result<(), Stop> {
+    pub(crate) fn play_for<P: Purpose + Drop>(
+        &mut self,
+        purpose: P,
+        needed: bool,
+    ) -> Result<(), Stop> {
         let mut setup = Setup::new();
-        match self.first_act(&mut setup)? {
-            Some(act) => {
+        match self.first_act(&mut setup) {
+            Ok(Some(act)) => {
                 let opening = setup.open().map_err(|fault| self.rows.malformed(fault))?;
                 self.do_opened(purpose, &act, opening)
             }
-            None if needed && self.rows.is_fresh() => Err(Stop::Usage),
-            None => purpose.nothing(),
+            Ok(None) if needed && self.rows.is_fresh() => Err(Stop::Usage),
+            Ok(None) => purpose.nothing(),
+            Err(Stop::SheetRefused(refusal)) => {
+                purpose.refused(refusal)?;
+                Err(Stop::SheetRefused(refusal))
+            }
+            Err(stop) => Err(stop),
         }
-    }
-
-    // The same, and tells the refusal of a sheet where there is one.
-    pub(crate) fn play_for<P: Purpose>(
-        &mut self,
-        purpose: &mut P,
-        needed: bool,
-    ) -> Result<(), Stop> {
-        let played = self.play_all(purpose, needed);
-        if let Err(Stop::SheetRefused(refusal)) = &played {
-            purpose.refused(*refusal)?;
-        }
-        played
     }
 }
 

@@ -14,12 +14,12 @@ use strategy::strategy::Strategy;
 
 // A run, and who watches it.
 #[derive(Drop)]
-struct Watched<'a, S, H, W> {
+struct Watched<S, H, W> {
     run: Run<S, H>,
-    watch: &'a mut W,
+    watch: W,
 }
 
-impl<S: Strategy, H: LampWords, W: Watch> Player for Watched<'_, S, H, W> {
+impl<S: Strategy, H: LampWords, W: Watch> Player for Watched<S, H, W> {
     fn act(&mut self, act: Act<'_>) -> Result<(), Stop> {
         let answered = self.run.act(act);
         self.watch.answered(&act, &answered)
@@ -28,33 +28,39 @@ impl<S: Strategy, H: LampWords, W: Watch> Player for Watched<'_, S, H, W> {
     fn end(&mut self) -> Result<(), Stop> {
         self.watch.closed(self.run.totals())
     }
+
+    fn flush(&mut self) -> Result<(), Stop> {
+        self.watch.flush()
+    }
 }
 
 // Playing a plan for somebody who watches.
 #[derive(Drop)]
 pub(crate) struct Playing<W>(pub(crate) W);
 
-impl<W: Watch> Purpose for Playing<W> {
+impl<W: Watch + Drop> Purpose for Playing<W> {
     fn play<R: Read + Drop, S: Strategy + Drop, H: LampWords + Drop>(
-        &mut self,
+        self,
         plan: &mut Plan<R>,
         first: &Row,
         sheet: Sheet,
         strategy: S,
         head: H,
     ) -> Result<(), Stop> {
-        let mut watched = Watched {
+        let watched = Watched {
             run: Run::open(sheet, strategy, head),
-            watch: &mut self.0,
+            watch: self.0,
         };
-        plan.play(&mut watched, first)
+        plan.play(watched, first)
     }
 
-    fn nothing(&mut self) -> Result<(), Stop> {
-        self.0.closed(Totals::default())
+    fn nothing(mut self) -> Result<(), Stop> {
+        self.0.closed(Totals::default())?;
+        self.0.flush()
     }
 
-    fn refused(&mut self, refusal: Refusal) -> Result<(), Stop> {
-        self.0.refused(refusal)
+    fn refused(mut self, refusal: Refusal) -> Result<(), Stop> {
+        self.0.refused(refusal)?;
+        self.0.flush()
     }
 }

@@ -2,7 +2,6 @@
 use crate::stop::Stop;
 use lamps::colour::Colour;
 use log_rows::words::{colour_word, phase_word};
-use plan::text::without_end;
 use records::phase::Phase;
 use std::alloc::Global;
 use std::io::{BufRead, BufReader, Read};
@@ -25,6 +24,14 @@ const PHASES: [Phase; 8] = [
     Phase::Closing,
     Phase::Tripped,
 ];
+
+// A row without its line feed, and without one carriage return right before that.
+pub(crate) fn without_end(raw: &[u8]) -> &[u8] {
+    match raw {
+        [row @ .., b'\r', b'\n'] | [row @ .., b'\n'] => row,
+        _ => raw,
+    }
+}
 
 // What a recorded row says.
 #[derive(Clone, Copy)]
@@ -71,8 +78,10 @@ fn read_taken(word: &[u8]) -> Option<bool> {
     }
 }
 
-// The fields of a second behind its kind: NUMBER;COLOUR;PHASE;SIGN;TRIP;CYCLE.
-fn read_second<'a>(mut fields: impl Iterator<Item = &'a [u8]>) -> Option<SecondRecorded> {
+// The row of a second: second;NUMBER;COLOUR;PHASE;SIGN;TRIP;CYCLE.
+fn read_second(row: &[u8]) -> Option<SecondRecorded> {
+    let mut fields = row.split(|byte| *byte == b';');
+    let _kind = fields.next()?;
     let _number = fields.next()?;
     let colour = read_colour(fields.next()?)?;
     let phase = read_phase(fields.next()?)?;
@@ -89,7 +98,7 @@ fn read_second<'a>(mut fields: impl Iterator<Item = &'a [u8]>) -> Option<SecondR
 pub(crate) fn read_recorded(row: &[u8]) -> Recorded {
     let mut fields = row.split(|byte| *byte == b';');
     let said = match fields.next() {
-        Some(b"second") => read_second(fields).map(Recorded::Second),
+        Some(b"second") => read_second(row).map(Recorded::Second),
         Some(b"line") => fields.next().and_then(read_taken).map(Recorded::Line),
         Some(b"reset") => fields.next().and_then(read_taken).map(Recorded::Reset),
         _ => Some(Recorded::Other),

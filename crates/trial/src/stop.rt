@@ -1,9 +1,17 @@
 // Why a run ends early.
 use plan::row::RowFault;
 use replay::setup::Misplaced;
+use sheet::draft::Refusal;
 use std::alloc::AllocError;
 use std::io;
 use thiserror::Error;
+
+// How the program is used.
+pub(crate) const USAGE: &str = "usage: trial PLAN            plays the plan and writes its log to standard output
+       trial < PLAN          the same with the plan from standard input
+       trial hold PLAN LOG   plays the plan and holds a recorded log against it, row by row
+       trial judge PLAN LOG  judges a recorded log of the plan by the run law
+       trial picture PLAN    plays the plan and draws the run, as SVG to standard output";
 
 // What is wrong with a row of the plan.
 #[derive(Clone, Copy, Debug, Error)]
@@ -17,7 +25,7 @@ pub enum Fault {
 // Why a run ends early; a row with its number.
 #[derive(Debug, Drop, Error)]
 pub enum Stop {
-    #[error("usage: trial PLAN, or trial < PLAN: replays the plan and writes its log to standard output")]
+    #[error("{USAGE}")]
     Usage,
     #[error("{0}: {1}")]
     Unreadable(String, io::Error),
@@ -26,7 +34,13 @@ pub enum Stop {
     #[error("row {0}: {1}")]
     Malformed(u64, Fault),
     #[error("the sheet is refused")]
-    SheetRefused,
+    SheetRefused(Refusal),
+    #[error("the recorded log differs")]
+    Differs,
+    #[error("the sheet of the plan is refused: {0}, figure {1}")]
+    NothingPlayed(u32, u32),
+    #[error("row {0} of the recorded log: expected {1}")]
+    Recorded(u64, &'static str),
 }
 
 // Memory that runs out is told as an error of input and output.

@@ -12,4 +12,7 @@ pub(crate) trait Watch {
     fn closed(&mut self, totals: Totals) -> Result<(), Stop>;
 
     fn refused(&mut self, refusal: Refusal) -> Result<(), Stop>;
+
+    // What was written so far is to be seen, whatever comes.
+    fn flush(&mut self) -> Result<(), Stop>;
 }

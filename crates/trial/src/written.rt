@@ -5,9 +5,13 @@ ghost use Rattle.trial.specs.Written.{row_of};
 use control::answer::Refused;
 use log_rows::acts::{LineRefused, LineTaken, ResetRefused, ResetTaken};
 use log_rows::alarm::AlarmRow;
+use log_rows::closing::Closing;
 use log_rows::period::PeriodRow;
+use log_rows::row::SheetRefused;
 use log_rows::second::SecondRow;
+use observer::totals::Totals;
 use replay::answered::{Answered, Outcome, Reply, SecondOutcome};
+use sheet::draft::Refusal;
 use station::station::field::View;
 use std::io::{self, Write};
 
@@ -57,4 +61,14 @@ pub(crate) fn write_answered<W: Write>(out: &mut W, answered: &Answered) -> io::
         Outcome::Line(result) => write_line(out, result),
         Outcome::Reset(result) => write_reset(out, result),
     }
+}
+
+// The closing row of a run with these totals.
+pub(crate) fn write_closing<W: Write>(out: &mut W, totals: Totals) -> io::Result<()> {
+    writeln!(out, "{}", Closing(totals))
+}
+
+// The row of a refused sheet.
+pub(crate) fn write_refused<W: Write>(out: &mut W, refusal: Refusal) -> io::Result<()> {
+    writeln!(out, "{}", SheetRefused(refusal))
 }
