@@ -46,8 +46,13 @@ REACHED = {" + ": " - ", " - ": " + ", " * ": " + ", " / ": " * ", " % ": " / ",
 CALLED = {".min(": ".max(", ".max(": ".min(", "is_some()": "is_none()", "is_none()": "is_some()", ".any(": ".all(", ".all(": ".any("}
 STOPPED = {"saturating_add": "wrapping_add", "saturating_sub": "wrapping_sub", "saturating_mul": "wrapping_mul"}
 
+# outcomes that say nothing of a contract or a theorem: the place gets another bug
+NOTHING_SAID = ("no program", "unsure", "no text")
+
 
 class Bug:
+    """A change of a file: what is changed where, and the text of the file with it."""
+
     def __init__(self, crate, file, function, line, kind, old, new, lines):
         self.crate, self.file, self.function, self.line = crate, file, function, line
         self.kind, self.old, self.new, self.lines = kind, old.strip(), new.strip(), lines
@@ -340,20 +345,19 @@ def row_of(bug, *more):
     return "\t".join(it.replace("\n", " ⏎ ") for it in (bug.crate, bug.place(), bug.kind, bug.old, bug.new, *more))
 
 
-def plant(crate, found, wanted, copies, pool, jobs, chance, then, out):
-    """Tries bugs of a crate, the functions in turn, until as many as are wanted were taken by the compiler."""
+def try_in_turn(found, wanted, pool, jobs, chance, attempt, out):
+    """Tries bugs, those of each place in turn, until as many as are wanted say something. Prints each, and gives how often each outcome came."""
     turns = collections.deque(in_turn(found, chance))
     left = max(wanted, len(turns))
-    counts = collections.Counter()
-    running = {}
+    counts, running = collections.Counter(), {}
     while True:
         while turns and len(running) < min(jobs, left):
             turn = turns.popleft()
             if turn:
                 bug = turn.pop(0)
-                running[pool.submit(tried, bug, copies, then)] = bug, turn
+                running[pool.submit(attempt, bug)] = bug, turn
         if not running:
-            break
+            return counts
         done, _ = concurrent.futures.wait(running, return_when=concurrent.futures.FIRST_COMPLETED)
         for it in done:
             bug, turn = running.pop(it)
@@ -363,32 +367,46 @@ def plant(crate, found, wanted, copies, pool, jobs, chance, then, out):
             print(row, flush=True)
             if out:
                 print(row, file=out, flush=True)
-            if outcome in ("no program", "unsure"):
+            if outcome in NOTHING_SAID:
                 turns.appendleft(turn)
             else:
                 left -= 1
                 turns.append(turn)
-    planted = sum(counts[it] for it in ("refused", "proved", "seen"))
-    told = ", ".join(f"{counts[it]} {it}" for it in ("refused", "seen", "proved", "no program", "unsure") if counts[it])
-    print(f"{crate}: {planted} planted in {len(found)} places: {told}", flush=True)
 
 
-def main():
-    words = argparse.ArgumentParser(description=__doc__, formatter_class=argparse.RawDescriptionHelpFormatter)
+def told(name, found, counts):
+    """How often each outcome came, in a line."""
+    planted = sum(many for it, many in counts.items() if it not in NOTHING_SAID)
+    return f"{name}: {planted} planted in {len(found)} places: " + ", ".join(f"{many} {it}" for it, many in sorted(counts.items()))
+
+
+def arguments(doc, jobs):
+    """The arguments that both tools take."""
+    words = argparse.ArgumentParser(description=doc, formatter_class=argparse.RawDescriptionHelpFormatter)
     words.add_argument("crates", nargs="*")
     words.add_argument("--bugs", type=int, default=24)
     words.add_argument("--only", default="")
-    words.add_argument("--jobs", type=int, default=2)
+    words.add_argument("--jobs", type=int, default=jobs)
     words.add_argument("--seed", type=int, default=1)
     words.add_argument("--list", action="store_true")
-    words.add_argument("--then", default="")
     words.add_argument("--out")
     words.add_argument("--tree", default=os.path.dirname(os.path.dirname(os.path.abspath(__file__))))
+    return words
+
+
+def crates_of(tree):
+    """The crates of a tree, those below first."""
+    with open(f"{tree}/crates.txt", encoding="utf-8") as it:
+        return [line.split(":")[0].strip() for line in it if line.strip() and line[0] != "#"]
+
+
+def main():
+    words = arguments(__doc__, 2)
+    words.add_argument("--then", default="")
     given = words.parse_args()
 
     shapes = Shapes(f"{given.tree}/crates")
-    named = [it.split(":")[0].strip() for it in open(f"{given.tree}/crates.txt", encoding="utf-8") if it.strip() and it[0] != "#"]
-    crates = given.crates or [it for it in named if it != "cases"]
+    crates = given.crates or [it for it in crates_of(given.tree) if it != "cases"]
     chosen = {crate: bugs_of(given.tree, crate, shapes, given.only) for crate in crates}
     if given.list:
         for bug in (it for found in chosen.values() for some in found.values() for it in some):
@@ -403,9 +421,10 @@ def main():
             shutil.copytree(given.tree, f"{room}/{k}", ignore=shutil.ignore_patterns(".git", "target"), symlinks=True)
             copies.put(f"{room}/{k}")
         with concurrent.futures.ThreadPoolExecutor(given.jobs) as pool:
-            for crate in crates:
+            for crate, found in chosen.items():
                 chance = random.Random(f"{given.seed} {crate}")
-                plant(crate, chosen[crate], given.bugs, copies, pool, given.jobs, chance, given.then, out)
+                counts = try_in_turn(found, given.bugs, pool, given.jobs, chance, lambda bug: tried(bug, copies, given.then), out)
+                print(told(crate, found, counts), flush=True)
     finally:
         shutil.rmtree(room, ignore_errors=True)
     return 0

@@ -23,8 +23,6 @@ program is there to differ from its definition, and what notices a bug is a theo
     no text      the copy does not read the definition, so the bug does not count
 """
 
-import argparse
-import collections
 import concurrent.futures
 import os
 import queue
@@ -132,16 +130,6 @@ NAMED = [
     ("a fresh station is wanted", "control", "Fresh", "command = record { mode = Local; wanted = false;", "command = record { mode = Local; wanted = true;"),
     ("a fresh head is cut", "control", "Fresh", "is_cut = false;", "is_cut = true;"),
 ]
-
-
-class Edit:
-    def __init__(self, crate, file, name, line, kind, old, new, text):
-        self.crate, self.file, self.name, self.line = crate, file, name, line
-        self.kind, self.old, self.new, self.text = kind, old.strip(), new.strip(), text
-
-    def row(self, *more):
-        words = (self.crate, f"{self.file}:{self.line + 1} {self.name}", self.kind, self.old, self.new, *more)
-        return "\t".join(it.replace("\n", " ⏎ ") for it in words)
 
 
 def without_functions(lines):
@@ -278,7 +266,7 @@ def edits_of(tree, crate, variants, only):
                 continue
             for kind, many, new in changes(lines, n, variants):
                 text = "\n".join(lines[:n] + [new] + lines[n + many :])
-                edit = Edit(crate, f"specs/{name}", definition, n, kind, "\n".join(lines[n : n + many]), new, text)
+                edit = plant.Bug(crate, f"specs/{name}", definition, n, kind, "\n".join(lines[n : n + many]), new, text)
                 found.setdefault((name, definition), []).append(edit)
     return found
 
@@ -325,7 +313,7 @@ def named(tree, only):
             continue
         after = imported(text.replace(old, new), new)
         line = text[: text.index(old)].count("\n")
-        found[what] = [Edit(crate, path, what, line, "named", old, new, after)]
+        found[what] = [plant.Bug(crate, path, what, line, "named", old, new, after)]
     return found
 
 
@@ -346,7 +334,7 @@ def tried(edit, copies):
         file = f"{copy}/crates/{edit.crate}/{edit.file}"
         was = open(file, encoding="utf-8").read()
         with open(file, "w", encoding="utf-8") as it:
-            it.write(edit.text)
+            it.write(edit.lines)
         try:
             # the laws of command lines stand in `orders`, below the run law
             if edit.crate in ("orders", "decimals"):
@@ -361,50 +349,13 @@ def tried(edit, copies):
         copies.put(copy)
 
 
-def try_all(name, found, wanted, copies, pool, jobs, chance, out):
-    turns = collections.deque(plant.in_turn(found, chance))
-    left = max(wanted, len(turns))
-    counts, running = collections.Counter(), {}
-    while True:
-        while turns and len(running) < min(jobs, left):
-            turn = turns.popleft()
-            if turn:
-                edit = turn.pop(0)
-                running[pool.submit(tried, edit, copies)] = edit, turn
-        if not running:
-            break
-        done, _ = concurrent.futures.wait(running, return_when=concurrent.futures.FIRST_COMPLETED)
-        for it in done:
-            edit, turn = running.pop(it)
-            outcome, said = it.result()
-            counts[outcome] += 1
-            print(edit.row(outcome, said[:300]), flush=True)
-            if out:
-                print(edit.row(outcome, said[:300]), file=out, flush=True)
-            if outcome == "no text":
-                turns.appendleft(turn)
-            else:
-                left -= 1
-                turns.append(turn)
-    print(f"{name}: " + ", ".join(f"{many} {it}" for it, many in sorted(counts.items())), flush=True)
-
-
 def main():
-    words = argparse.ArgumentParser(description=__doc__, formatter_class=argparse.RawDescriptionHelpFormatter)
-    words.add_argument("crates", nargs="*")
-    words.add_argument("--bugs", type=int, default=24)
-    words.add_argument("--only", default="")
-    words.add_argument("--jobs", type=int, default=1)
-    words.add_argument("--seed", type=int, default=1)
+    words = plant.arguments(__doc__, 1)
     words.add_argument("--named", action="store_true")
-    words.add_argument("--list", action="store_true")
-    words.add_argument("--out")
-    words.add_argument("--tree", default=os.path.dirname(os.path.dirname(os.path.abspath(__file__))))
     given = words.parse_args()
 
-    shapes = plant.Shapes(f"{given.tree}/crates")
     variants = {}
-    for case, others in shapes.variants.items():
+    for case, others in plant.Shapes(f"{given.tree}/crates").variants.items():
         variants.setdefault(case.split("::")[1], []).extend(it.split("::")[1] for it in others)
     if given.named:
         chosen = {"named": named(given.tree, given.only)}
@@ -412,7 +363,7 @@ def main():
         chosen = {crate: edits_of(given.tree, crate, variants, given.only) for crate in given.crates or STEPS}
     if given.list:
         for edit in (it for found in chosen.values() for some in found.values() for it in some):
-            print(edit.row())
+            print(plant.row_of(edit))
         return 0
 
     room = tempfile.mkdtemp(prefix="misread-")
@@ -429,7 +380,10 @@ def main():
             copies.put(f"{room}/{k}")
         with concurrent.futures.ThreadPoolExecutor(given.jobs) as pool:
             for name, found in chosen.items():
-                try_all(name, found, 0 if given.named else given.bugs, copies, pool, given.jobs, random.Random(f"{given.seed} {name}"), out)
+                chance = random.Random(f"{given.seed} {name}")
+                wanted = 0 if given.named else given.bugs
+                counts = plant.try_in_turn(found, wanted, pool, given.jobs, chance, lambda edit: tried(edit, copies), out)
+                print(plant.told(name, found, counts), flush=True)
     finally:
         shutil.rmtree(room, ignore_errors=True)
     return 0
