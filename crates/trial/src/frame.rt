@@ -3,6 +3,7 @@ use std::io::{self, Write};
 
 // The width of the time axis, and what stands left of it.
 const WIDTH: u64 = 1_600;
+
 const LEFT: u64 = 90;
 
 // The seconds between two marks of the time axis: the first of these that gives at most 24.
@@ -57,7 +58,10 @@ pub(crate) fn frame_start<W: Write>(out: &mut W, seconds: u64) -> io::Result<()>
         out,
         "<svg x=\"{LEFT}\" y=\"20\" width=\"{WIDTH}\" height=\"340\" viewBox=\"0 0 {span} 340\" preserveAspectRatio=\"none\">"
     )?;
-    writeln!(out, "<style>path {{ fill: none; stroke-width: 1; vector-effect: non-scaling-stroke; }}</style>")
+    writeln!(
+        out,
+        "<style>path {{ fill: none; stroke-width: 1; vector-effect: non-scaling-stroke; }}</style>"
+    )
 }
 
 // A mark of the time axis, so many seconds after the beginning: hours, minutes and seconds.

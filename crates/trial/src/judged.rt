@@ -213,7 +213,10 @@ impl<S: Strategy, L: Read + Drop, W: Write + Drop> Judged<S, L, W> {
             trips,
         };
         if self.judge.second(seen).is_err() {
-            return Err(self.judging.unlike("no further second, there are 4294967295"));
+            return Err(
+                self.judging
+                    .unlike("no further second, there are 4294967295"),
+            );
         }
         let row = self.judging.recorded.number();
         self.judging.rows = self.judging.rows.with(self.judge.verdict(), row);

@@ -73,12 +73,7 @@ fn help(rt: &HostRuntime) -> Result<(), Stop> {
 }
 
 // A command with its plan, and with a recorded log where it takes one.
-fn command(
-    rt: &HostRuntime,
-    command: &str,
-    plan: String,
-    log: Option<String>,
-) -> Result<(), Stop> {
+fn command(rt: &HostRuntime, command: &str, plan: String, log: Option<String>) -> Result<(), Stop> {
     match (command, log) {
         ("picture", None) => draw(rt, plan),
         ("hold", Some(log)) => hold(rt, plan, log),

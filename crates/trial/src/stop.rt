@@ -7,11 +7,17 @@ use std::io;
 use thiserror::Error;
 
 // How the program is used.
-pub(crate) const USAGE: &str = "usage: trial PLAN            plays the plan and writes its log to standard output
+pub(crate) const USAGE: &str =
+    "usage: trial PLAN            plays the plan and writes its log to standard output
        trial < PLAN          the same with the plan from standard input
        trial hold PLAN LOG   plays the plan and holds a recorded log against it, row by row
-       trial judge PLAN LOG  judges a recorded log of the plan by the run law
-       trial picture PLAN    plays the plan and draws the run, as SVG to standard output";
+       trial judge PLAN LOG  judges a recorded log of the plan by the promises over runs
+       trial picture PLAN    plays the plan and draws the run, as SVG to standard output
+       trial --help          writes this
+
+A plan has a row for each second, command line and breaker reset, a log what each of them
+answered; the fields of a row have `;` between them. docs/TRIAL.md has both formats.
+The status is 0 where all went well: the plan was run, the logs agree, the law is kept.";
 
 // What is wrong with a row of the plan.
 #[derive(Clone, Copy, Debug, Error)]
