@@ -1,6 +1,8 @@
 // A recorded log, judged by the run law: the plan tells what each act was given, the log what it answered.
 use crate::plan::{Plan, Player, Purpose};
-use crate::recorded::{Recorded, RecordedLog, SecondRecorded, read_recorded, without_end};
+use crate::recorded::{
+    BadField, Recorded, RecordedLog, SecondRecorded, read_recorded, without_end,
+};
 use crate::stop::Stop;
 use control::answer::Refused;
 use judge::judge::{Judge, Seen};
@@ -110,6 +112,9 @@ impl<L: Read + Drop, W: Write + Drop> Judging<L, W> {
             }
             match read_recorded(self.recorded.row()) {
                 Recorded::Other => {}
+                Recorded::Bad(BadField { field, wanted }) => {
+                    return Err(Stop::BadField(self.recorded.number(), field, wanted));
+                }
                 said => return Ok(Some(said)),
             }
         }

@@ -42,8 +42,15 @@ pub(crate) enum Recorded {
     Reset(bool),
     // Rows of other kinds tell a judge nothing.
     Other,
-    // A row of one of these kinds whose fields are none.
-    Unreadable,
+    // A row of one of these kinds with a field that is none.
+    Bad(BadField),
+}
+
+// A field of a recorded row, from 1, that is missing or wrong, and what was expected there.
+#[derive(Clone, Copy)]
+pub(crate) struct BadField {
+    pub(crate) field: u32,
+    pub(crate) wanted: &'static str,
 }
 
 // A second: its colour and phase, and whether it tripped.
@@ -70,27 +77,39 @@ fn read_phase(word: &[u8]) -> Option<Phase> {
 }
 
 // Whether an act was taken or refused.
-fn read_taken(word: &[u8]) -> Option<bool> {
+fn read_taken(word: Option<&[u8]>) -> Result<bool, BadField> {
     match word {
-        b"taken" => Some(true),
-        b"refused" => Some(false),
-        _ => None,
+        Some(b"taken") => Ok(true),
+        Some(b"refused") => Ok(false),
+        _ => Err(BadField {
+            field: 2,
+            wanted: "taken or refused",
+        }),
     }
 }
 
 // The row of a second: second;NUMBER;COLOUR;PHASE;SIGN;TRIP;CYCLE.
-fn read_second(row: &[u8]) -> Option<SecondRecorded> {
+fn read_second(row: &[u8]) -> Result<SecondRecorded, BadField> {
     let mut fields = row.split(|byte| *byte == b';');
-    let _kind = fields.next()?;
-    let _number = fields.next()?;
-    let colour = read_colour(fields.next()?)?;
-    let phase = read_phase(fields.next()?)?;
-    let _sign = fields.next()?;
-    let trips = !fields.next()?.is_empty();
-    Some(SecondRecorded {
+    let _kind = fields.next();
+    let _number = fields.next();
+    let colour = fields.next().and_then(read_colour).ok_or(BadField {
+        field: 3,
+        wanted: "dark, red, amber or flashing",
+    })?;
+    let phase = fields.next().and_then(read_phase).ok_or(BadField {
+        field: 4,
+        wanted: "a phase",
+    })?;
+    let _sign = fields.next();
+    let trip = fields.next().ok_or(BadField {
+        field: 6,
+        wanted: "a trip, or nothing",
+    })?;
+    Ok(SecondRecorded {
         colour,
         phase,
-        trips,
+        trips: !trip.is_empty(),
     })
 }
 
@@ -99,11 +118,11 @@ pub(crate) fn read_recorded(row: &[u8]) -> Recorded {
     let mut fields = row.split(|byte| *byte == b';');
     let said = match fields.next() {
         Some(b"second") => read_second(row).map(Recorded::Second),
-        Some(b"line") => fields.next().and_then(read_taken).map(Recorded::Line),
-        Some(b"reset") => fields.next().and_then(read_taken).map(Recorded::Reset),
-        _ => Some(Recorded::Other),
+        Some(b"line") => read_taken(fields.next()).map(Recorded::Line),
+        Some(b"reset") => read_taken(fields.next()).map(Recorded::Reset),
+        _ => Ok(Recorded::Other),
     };
-    said.unwrap_or(Recorded::Unreadable)
+    said.unwrap_or_else(Recorded::Bad)
 }
 
 // A recorded log from here on, with the row read last and its number from 1.
