@@ -1,5 +1,5 @@
 // A recorded log, judged by the run law: the plan tells what each act was given, the log what it answered.
-use crate::plan::{Plan, Player, Purpose};
+use crate::reading::{Plan, Player, Purpose};
 use crate::recorded::{
     BadField, Recorded, RecordedLog, SecondRecorded, read_recorded, without_end,
 };

@@ -1,13 +1,13 @@
-// trial: replays a plan, and writes its log or holds a recorded one against it.
+// trial: plays a plan, and writes its log, holds or judges a recorded log of it, or draws the run.
 #![tactic(auto)]
 
 mod frame;
 mod held;
 mod judged;
-mod log;
+mod logged;
 mod picture;
-mod plan;
 mod played;
+mod reading;
 mod recorded;
 mod rows;
 mod stop;
@@ -18,10 +18,10 @@ mod written;
 
 use crate::held::Held;
 use crate::judged::Judging;
-use crate::log::Log;
+use crate::logged::Log;
 use crate::picture::Picture;
-use crate::plan::{Plan, Purpose};
 use crate::played::Playing;
+use crate::reading::{Plan, Purpose};
 use crate::stop::{Stop, USAGE};
 use std::env;
 use std::fs::File;

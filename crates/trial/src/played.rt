@@ -1,5 +1,5 @@
 // A plan that is played on a station.
-use crate::plan::{Plan, Player, Purpose};
+use crate::reading::{Plan, Player, Purpose};
 use crate::stop::Stop;
 use crate::watch::Watch;
 use lamps::head::LampWords;
