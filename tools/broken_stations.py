@@ -133,17 +133,29 @@ BROKEN = [
     ("a status letter of another phase", '{STANDBY: b"V", TRIPPED: b"H"}', '{STANDBY: b"V", DRAINING: b"V", TRIPPED: b"H"}'),
     ("the cycles reading has the window amber", "self.sheet.window_flash)\n        if len(reply)", "self.sheet.window_amber)\n        if len(reply)"),
     ("a reply needs a byte to spare", "if len(reply) > buffer:", "if len(reply) >= buffer:"),
+    ("an alarm tells the ordered lamp", "    return Trip(2, min(lamp for lamp in LAMPS if lit & lamp and not ordered & lamp))", "    return Trip(2, ordered or min(lamp for lamp in LAMPS if lit & lamp))"),
+    ("an alarm tells the highest lamp", "return Trip(2, min(", "return Trip(2, max("),
+    ("the trip codes are exchanged", "        return Trip(1, ordered)  # a colour orders one lamp, or none\n    return Trip(2,", "        return Trip(2, ordered)\n    return Trip(1,"),
+    ("a queue count of one too many", "self.over_count = min(self.over_count + 1, self.sheet.queue_full_seconds) if full else 0", "self.over_count = self.over_count + 1 if full else 0"),
+    ("draining holds the under-count at 0", "        if self.phase == DRAINING and self.under_count == sheet.queue_cleared_seconds:", "        self.under_count = 0 if self.phase == DRAINING else self.under_count\n        if self.phase == DRAINING and self.under_count == sheet.queue_cleared_seconds:"),
+    ("the count of before is looked at", "        self.count_queue(given.queue)\n", "        before = self.over_count\n        self.count_queue(given.queue)\n        now, self.over_count = self.over_count, before\n"),
+    ("an opening of the second of a close is the closing record's", RECORD, RECORD.replace("self.openings)", "self.openings + 1)")),
+    ("an opening at a close is the old record's", "                self.openings = grow(self.openings)\n        metering", "                self.openings = grow(self.openings) if self.loops.seconds else 0\n        metering"),
+    ("local mode comes before tripped", "        if self.phase == TRIPPED:\n            raise ActRefused(8)\n", "        if self.phase == TRIPPED:\n            raise ActRefused(9 if name == \"off\" else 8)\n"),
+    ("a trip leaves the head uncut", TRIP, "        self.head.cut()\n        self.head.is_cut = False\n        self.phase = TRIPPED"),
     ("a fresh station is wanted", "        self.wanted = False\n        self.centre_cycle = None\n        self.phase = STANDBY", "        self.wanted = True\n        self.centre_cycle = None\n        self.phase = STANDBY"),
     ("a fresh head is cut", "        self.head = head\n        self.loops", "        self.head = head\n        self.head.cut()\n        self.loops"),
 ]
 
 # edits with a second place
 ALSO = {
+    "the count of before is looked at": [("            self.step_phase(given.presence)\n", "            self.step_phase(given.presence)\n        self.over_count = now\n")],
     "the strategy is asked before it is told": [("        return self.strategy.cycle(self.state)\n\n    def step_light", "        return self.asked\n\n    def step_light")],
 }
 
 # misreadings that no log of a plan that a test can hold shows
 UNSEEN = {
+    "a trip leaves the head uncut": "without effect: a tripped station orders nothing, so the light stays dark",
     "more arrears are kept": "60,000 reference cycles without a vehicle would have to come first; a worked figure has it",
     "draining keeps the under-count": "without effect: draining begins in a second in which the queue is full, so its under-count is 0 already",
     "the second of a trip settles wanted": "a log does not show wanted, and the breaker reset that ends the trip clears it; a look at a station shows it",
