@@ -1,6 +1,6 @@
 // Rows that are not well formed: the first wrong field from the left is told.
 use crate::rows::{read, repeated};
-use plan::read::read_row;
+use plan::reader::Reader;
 use plan::row::{Row, RowFault, Wanted};
 use plan::text::row_text;
 use std::test::Fail;
@@ -30,7 +30,7 @@ fn unknown_kinds(rt: HostRuntime) -> Result<(), Fail> {
         assert_eq!(rt; fault_in(raw)?, RowFault::UnknownKind);
     }
     assert_eq!(rt;
-        read_row(row_text(b"\xEF\xBB\xBFreset\n", true)),
+        Reader::new().read(row_text(b"\xEF\xBB\xBFreset\n", true)),
         Ok(Row::Reset)
     );
     Ok(())

@@ -1,20 +1,19 @@
 // Seconds with their lanes, and calendars.
-use crate::rows::{read, repeated};
+use crate::rows::repeated;
 use loops::reading::LaneReading;
-use plan::row::{Row, SecondRow, Word};
+use plan::reader::Reader;
+use plan::row::{Row, RowFault, SecondRow, Word};
+use plan::text::row_text;
 use sheet::calendar::MinuteRange;
-use std::test::Fail;
+use std::alloc::AllocError;
 
-// The second that a row tells of.
-fn second_in(raw: &[u8]) -> Result<SecondRow, Fail> {
-    match read(raw) {
-        Ok(Row::Second(second)) => Ok(second),
-        _ => Err(Fail::new("no row of a second")),
-    }
+// Reads a row, as it is read that is not the first.
+fn read_next(reader: &mut Reader, raw: &[u8]) -> Result<Row, RowFault> {
+    reader.read(row_text(raw, false))
 }
 
 #[test]
-fn seconds(rt: HostRuntime) -> Result<(), Fail> {
+fn seconds(rt: HostRuntime) {
     let lanes = [
         LaneReading {
             seen: 3,
@@ -37,62 +36,112 @@ fn seconds(rt: HostRuntime) -> Result<(), Fail> {
             &lanes,
         ),
     ];
+    let mut reader = Reader::new();
     for (raw, (presence, queue_ms, word, minute), readings) in table {
-        let second = second_in(raw)?;
-        assert_eq!(rt; second.presence, presence);
-        assert_eq!(rt; second.queue_ms, queue_ms);
-        assert_eq!(rt; second.word, word);
-        assert_eq!(rt; second.minute, minute);
-        assert_eq!(rt; second.lanes.as_slice(), readings);
+        let second = SecondRow {
+            presence,
+            queue_ms,
+            word,
+            minute,
+        };
+        assert_eq!(rt; read_next(&mut reader, raw), Ok(Row::Second(second)));
+        assert_eq!(rt; reader.lanes(), readings);
     }
-    Ok(())
 }
 
 #[test]
-fn alike_seconds(rt: HostRuntime) -> Result<(), Fail> {
-    let second = second_in(b"second;1;7;ok;3;1|1|80")?;
+fn alike_seconds(rt: HostRuntime) {
+    let second = SecondRow {
+        presence: true,
+        queue_ms: 7,
+        word: Word::Lit,
+        minute: 3,
+    };
+    let lane = LaneReading {
+        seen: 1,
+        sound: 1,
+        busy_ms: 80,
+    };
     let table: [(&[u8], u32); 2] = [
         (b"seconds;0;1;7;ok;3;1|1|80\n", 0),
         (b"seconds;3600;1;7;ok;3;1|1|80\n", 3600),
     ];
+    let mut reader = Reader::new();
     for (raw, count) in table {
-        assert_eq!(rt; read(raw), Ok(Row::Seconds { count, second }));
+        assert_eq!(rt;
+            read_next(&mut reader, raw),
+            Ok(Row::Seconds { count, second })
+        );
+        assert_eq!(rt; reader.lanes(), [lane].as_slice());
     }
-    Ok(())
 }
 
 #[test]
-fn most_lanes(rt: HostRuntime) -> Result<(), Fail> {
+fn most_lanes(rt: HostRuntime) -> Result<(), AllocError> {
     let row = repeated(rt.alloc(), b"second;1;0;ok;0", b";1|2|3", 16)?;
-    let second = second_in(row.as_slice())?;
-    assert_eq!(rt;
-        second.lanes.as_slice(),
-        [LaneReading {
-            seen: 1,
-            sound: 2,
-            busy_ms: 3,
-        }; 16]
-        .as_slice()
-    );
+    let lane = LaneReading {
+        seen: 1,
+        sound: 2,
+        busy_ms: 3,
+    };
+    let mut reader = Reader::new();
+    assert!(rt; read_next(&mut reader, row.as_slice()).is_ok());
+    assert_eq!(rt; reader.lanes(), [lane; 16].as_slice());
     Ok(())
 }
 
+// The lanes are those of the row read last.
 #[test]
-fn calendars(rt: HostRuntime) -> Result<(), Fail> {
+fn lanes_of_the_last_row(rt: HostRuntime) {
+    let table: [(&[u8], usize); 6] = [
+        (b"second;1;0;ok;0;1|1|80;1|1|80\n", 2),
+        (b"second;1;0;ok;0;1|1|80\n", 1),
+        (b"line;P\n", 0),
+        (b"seconds;5;1;0;ok;0;1|1|80;1|1|80;1|1|80\n", 3),
+        (b"second;1;0;ok;0;1|1|80;1|1\n", 0),
+        (b"second;1;0;ok;0\n", 0),
+    ];
+    let mut reader = Reader::new();
+    for (raw, count) in table {
+        let _ = read_next(&mut reader, raw);
+        assert_eq!(rt; reader.lanes().len(), count);
+    }
+}
+
+#[test]
+fn calendars(rt: HostRuntime) -> Result<(), AllocError> {
     let night = MinuteRange { from: 0, to: 359 };
     let noon = MinuteRange { from: 720, to: 720 };
     let full = repeated(rt.alloc(), b"calendar", b";720..0720", 64)?;
     let table: [(&[u8], &[MinuteRange]); 4] = [
-        (b"calendar", &[]),
-        (b"calendar;;\n", &[]),
         (b"calendar;0..359;720..720\n", &[night, noon]),
+        (b"calendar;;\n", &[]),
         (full.as_slice(), &[noon; 64]),
+        (b"calendar", &[]),
     ];
+    let mut reader = Reader::new();
+    assert_eq!(rt; reader.calendar().len(), 0);
     for (raw, ranges) in table {
-        let Ok(Row::Calendar(calendar)) = read(raw) else {
-            return Err(Fail::new("no calendar"));
-        };
-        assert_eq!(rt; calendar.as_slice(), ranges);
+        assert_eq!(rt; read_next(&mut reader, raw), Ok(Row::Calendar));
+        assert_eq!(rt; reader.calendar(), ranges);
     }
     Ok(())
+}
+
+// A calendar stays until the next one that is well formed.
+#[test]
+fn calendar_at_the_moment(rt: HostRuntime) {
+    let night = MinuteRange { from: 0, to: 359 };
+    let table: [(&[u8], &[MinuteRange]); 5] = [
+        (b"calendar;0..359\n", &[night]),
+        (b"second;1;0;ok;0;1|1|80\n", &[night]),
+        (b"reset;1\n", &[night]),
+        (b"calendar;1..2;3\n", &[night]),
+        (b"calendar\n", &[]),
+    ];
+    let mut reader = Reader::new();
+    for (raw, ranges) in table {
+        let _ = read_next(&mut reader, raw);
+        assert_eq!(rt; reader.calendar(), ranges);
+    }
 }

@@ -1,13 +1,13 @@
 // Rows of every kind that are well formed.
 use plan::number::read_number;
-use plan::read::read_row;
+use plan::reader::Reader;
 use plan::row::{Base, HeadKind, Limits, Row, RowFault, StrategyRow};
 use plan::text::row_text;
 use std::alloc::{AllocError, Global};
 
 // A row of a plan, as it is read, that is not the first.
 pub(crate) fn read(raw: &[u8]) -> Result<Row, RowFault> {
-    read_row(row_text(raw, false))
+    Reader::new().read(row_text(raw, false))
 }
 
 // A row of this beginning and so many fields that are alike.

@@ -1,3 +1,3 @@
 pub mod Cuts
 pub mod Reading
-pub mod Padding
+pub mod Alone

@@ -9,3 +9,4 @@ pub mod Seconds
 pub mod Strategies
 pub mod Rows
 pub mod Faults
+pub mod Reader

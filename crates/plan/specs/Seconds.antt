@@ -1,7 +1,6 @@
--- The rows that tell of seconds.
-use Rattle.std.specs.Prelude.{Ok, Result}
-use Rattle.plan.specs.declared.row.Row.{Row}
-use Rattle.plan.specs.declared.row.Row.TheVariants.{Seconds}
+-- The fields that tell of a second.
+use Rattle.std.specs.Prelude.{List, [], Ok, Err, Result}
+use Rattle.loops.specs.declared.reading.LaneReading.{LaneReading}
 use Rattle.plan.specs.declared.row.RowFault.{RowFault}
 use Rattle.plan.specs.declared.row.SecondRow.{SecondRow}
 use Rattle.plan.specs.declared.row.Wanted.TheVariants.{Number, Presence, Word as AWord}
@@ -11,19 +10,24 @@ use Rattle.plan.specs.Lists.{lanes_of}
 use Rattle.plan.specs.Values.{value_at, given, presence_of}
 use Rattle.plan.specs.Words.{word_of}
 
+-- a second with its lanes
+pub record LanedSecond : Type 0 where
+  pub second : SecondRow
+  pub lanes : List LaneReading
+
 -- PRESENCE;QUEUE;WORD;MINUTE and then lanes
-abbrev pub second_of : Numbered → Result SecondRow RowFault
+abbrev pub second_of : Numbered → Result LanedSecond RowFault
 second_of fs =
     given (value_at presence_of Presence fs) (λ p.
     given (value_at decimal Number (past fs)) (λ q.
     given (value_at word_of AWord (past (past fs))) (λ w.
     given (value_at decimal Number (past (past (past fs)))) (λ m.
     given (lanes_of (past (past (past (past fs))))) (λ l.
-    Ok (record { presence = p; queue_ms = q; word = w; minute = m; lanes = l }))))))
+    Ok (record { second = record { presence = p; queue_ms = q; word = w; minute = m }; lanes = l }))))))
 
--- COUNT and then the fields of a second
-abbrev pub seconds_of : Numbered → Result Row RowFault
-seconds_of fs =
-    given (value_at decimal Number fs) (λ k.
-    given (second_of (past fs)) (λ s.
-    Ok (Seconds k s)))
+abbrev pub second_in : Result LanedSecond RowFault → Result SecondRow RowFault
+second_in r = given r (λ s. Ok s.second)
+
+abbrev pub lanes_in : Result LanedSecond RowFault → List LaneReading
+lanes_in (Ok s) = s.lanes
+lanes_in (Err e) = []

@@ -14,6 +14,10 @@ abbrev pub given : {A B : Type 0} → Result A RowFault → (A → Result B RowF
 given (Ok x) k = k x
 given (Err e) k = Err e
 
+-- only whether a field is wrong, and which
+abbrev pub checked : {A : Type 0} → Result A RowFault → Result (Unit {0}) RowFault
+checked r = given r (λ _. Ok tt)
+
 -- the value in the first of these fields; w is wanted there
 abbrev pub value_at : {A : Type 0} → (List ℕ → Option A) → Wanted → Numbered → Result A RowFault
 value_at means w fs =

@@ -4,8 +4,11 @@
 pub mod fault;
 pub mod fields;
 mod figures;
+mod kind;
+mod lists;
 pub mod number;
-pub mod read;
+mod plain;
+pub mod reader;
 pub mod row;
 mod second;
 mod several;

@@ -1,10 +1,7 @@
 // The rows of a plan as values, and what can be wrong with a row.
-pub(crate) mod lists;
 
-use loops::reading::LaneReading;
-use sheet::calendar::MinuteRange;
-
-// What one row of a plan says.
+// What one row of a plan says, but for the lanes of a second and the ranges of a calendar: the reader keeps those, so that
+// a row is small.
 #[derive(Clone, Copy, Debug, PartialEq, Eq)]
 pub enum Row {
     // Nothing, or a comment.
@@ -13,7 +10,8 @@ pub enum Row {
     Sheet([u32; 22]),
     Strategy(StrategyRow),
     Head(HeadKind),
-    Calendar(Calendar),
+    // The calendar changes.
+    Calendar,
     Second(SecondRow),
     // So many seconds that are all alike.
     Seconds { count: u32, second: SecondRow },
@@ -52,14 +50,13 @@ pub enum HeadKind {
     Current,
 }
 
-// What the station is told of one second.
+// What the station is told of one second, but for its lanes.
 #[derive(Clone, Copy, Debug, PartialEq, Eq)]
 pub struct SecondRow {
     pub presence: bool,
     pub queue_ms: u32,
     pub word: Word,
     pub minute: u32,
-    pub lanes: Lanes,
 }
 
 // The word that the lamps give back: the one for the lamps that are lit, or any other.
@@ -69,20 +66,6 @@ pub enum Word {
     Lit,
     Given(u32),
 }
-
-// Up to so many values of one kind. They stand in an array, since a row is kept in fixed memory, and
-// in none of the library's of fixed room, since a row is Copy.
-#[derive(Clone, Copy, Debug, PartialEq, Eq)]
-pub struct UpTo<T, const MOST: usize> {
-    items: [T; MOST],
-    count: usize,
-}
-
-// Up to 16 lane readings.
-pub type Lanes = UpTo<LaneReading, 16>;
-
-// Up to 64 ranges of minutes.
-pub type Calendar = UpTo<MinuteRange, 64>;
 
 // The first thing that is wrong with a row. Fields are counted from 1, and the kind of the row is field 1.
 #[derive(Clone, Copy, Debug, PartialEq, Eq)]

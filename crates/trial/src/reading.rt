@@ -5,7 +5,7 @@ use crate::told::second_act;
 use lamps::current::CurrentHead;
 use lamps::head::LampWords;
 use lamps::relay::RelayHead;
-use plan::row::{Base, Calendar, HeadKind, Limits, Row};
+use plan::row::{Base, HeadKind, Limits, Row};
 use plan::text::command_text;
 use replay::act::{Act, LineAct};
 use replay::setup::{Misplaced, Opening, Setup, Slot};
@@ -47,11 +47,10 @@ pub(crate) trait Purpose {
     fn refused(self, refusal: Refusal) -> Result<(), Stop>;
 }
 
-// The plan that is read, with the calendar at the moment.
+// The plan that is read.
 #[derive(Drop)]
 pub(crate) struct Plan<R> {
     rows: Rows<R>,
-    calendar: Option<Calendar>,
 }
 
 impl<R: Read + Drop> Plan<R> {
@@ -59,7 +58,6 @@ impl<R: Read + Drop> Plan<R> {
     pub(crate) fn new(heap: Global, from: R) -> Result<Plan<R>, Stop> {
         Ok(Plan {
             rows: Rows::new(heap, from)?,
-            calendar: None,
         })
     }
 
@@ -71,14 +69,10 @@ impl<R: Read + Drop> Plan<R> {
     // What a row does once the station is opened.
     fn do_row<P: Player>(&mut self, player: &mut P, row: &Row) -> Result<(), Stop> {
         match row {
-            Row::Blank => Ok(()),
-            Row::Calendar(ranges) => {
-                self.calendar = Some(*ranges);
-                Ok(())
-            }
-            Row::Second(second) => player.act(Act::Second(second_act(second, &self.calendar))),
+            Row::Blank | Row::Calendar => Ok(()),
+            Row::Second(second) => player.act(Act::Second(second_act(second, self.rows.reader()))),
             Row::Seconds { count, second } => {
-                let act = Act::Second(second_act(second, &self.calendar));
+                let act = Act::Second(second_act(second, self.rows.reader()));
                 for _ in 0..*count {
                     player.act(act)?;
                 }
@@ -187,8 +181,7 @@ impl<R: Read + Drop> Plan<R> {
     // Takes a row before the first act. Answers the row where it is an act.
     fn prepare(&mut self, setup: &mut Setup, row: Row) -> Result<Option<Row>, Stop> {
         match row {
-            Row::Blank => {}
-            Row::Calendar(ranges) => self.calendar = Some(ranges),
+            Row::Blank | Row::Calendar => {}
             Row::Sheet(figures) => {
                 self.expect(setup, Slot::Sheet)?;
                 setup.set_sheet(accepted(figures)?);

@@ -1,17 +1,18 @@
 // The rows of a plan, one by one, as they are read.
 use crate::stop::{Fault, Stop};
-use plan::read::read_row;
+use plan::reader::Reader;
 use plan::row::Row;
 use plan::text::row_text;
 use std::alloc::Global;
 use std::io::{BufRead, BufReader, Read};
 
-// The plan from here on, the row read last, and its number from 1.
+// The plan from here on, the text of the row read last and its number from 1, and what the reader of rows keeps.
 #[derive(Drop)]
 pub struct Rows<R> {
     from: BufReader<R>,
     raw: Vec<u8>,
     number: u64,
+    reader: Reader,
 }
 
 impl<R: Read + Drop> Rows<R> {
@@ -21,6 +22,7 @@ impl<R: Read + Drop> Rows<R> {
             from: BufReader::new(heap, from)?,
             raw: Vec::new(heap),
             number: 0,
+            reader: Reader::new(),
         })
     }
 
@@ -31,13 +33,21 @@ impl<R: Read + Drop> Rows<R> {
             return Ok(None);
         }
         self.number = self.number.saturating_add(1);
-        let row = read_row(self.text()).map_err(|e| self.malformed(e))?;
-        Ok(Some(row))
+        let text = row_text(self.raw.as_slice(), self.number == 1);
+        match self.reader.read(text) {
+            Ok(row) => Ok(Some(row)),
+            Err(fault) => Err(self.malformed(fault)),
+        }
     }
 
     // The text of the row read last.
     pub(crate) fn text(&self) -> &[u8] {
         row_text(self.raw.as_slice(), self.number == 1)
+    }
+
+    // The lanes of the row read last, and the calendar at the moment.
+    pub(crate) fn reader(&self) -> &Reader {
+        &self.reader
     }
 
     // Has no row been read?

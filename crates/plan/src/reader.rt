@@ -1,0 +1,120 @@
+// The reader of a plan's rows.
+ghost use Rattle.std.specs.Prelude.{◌≡◌, []};
+ghost use Rattle.plan.specs.Fields.{fields_left};
+ghost use Rattle.plan.specs.Reader.{lanes_kept, calendar_kept, ReadAs};
+ghost use Rattle.plan.specs.Rows.{calendar_row_of, said_as, row_named, row_of};
+
+use crate::fields::Fields;
+use crate::kind::{Kind, kind_named};
+use crate::lists::UpTo;
+use crate::plain::{is_blank, read_head, read_line, read_reset, read_sheet};
+use crate::row::{Row, RowFault};
+use crate::second::read_second;
+use crate::strategy_row::read_strategy;
+use crate::value::next_value;
+use loops::reading::LaneReading;
+use sheet::calendar::MinuteRange;
+
+// What stands in the place of a lane that a row does not tell of.
+const NO_LANE: LaneReading = LaneReading {
+    seen: 0,
+    sound: 0,
+    busy_ms: 0,
+};
+
+// What stands in the place of a range that a row does not tell of.
+const NO_RANGE: MinuteRange = MinuteRange { from: 0, to: 0 };
+
+// Reads the rows of a plan, one after the other. It keeps the lists that rows carry: the lanes of the row read last, and
+// the calendar at the moment.
+#[derive(Debug, Drop)]
+pub struct Reader {
+    lanes: UpTo<LaneReading, 16>,
+    calendar: UpTo<MinuteRange, 64>,
+}
+
+impl Reader {
+    // Nothing is read yet, and the calendar is empty.
+    pub fn new() -> Reader
+        ensures lanes { lanes_kept result ≡ [] }
+        ensures calendar { calendar_kept result ≡ [] }
+    {
+        Reader {
+            lanes: UpTo::none(NO_LANE),
+            calendar: UpTo::none(NO_RANGE),
+        }
+    }
+
+    // The lanes of the row read last: none where it tells of no second, or is wrong.
+    pub fn lanes(&self) -> &[LaneReading]
+        ensures { result.now ≡ lanes_kept self.now }
+    {
+        self.lanes.as_slice()
+    }
+
+    // The calendar at the moment: the ranges of the last row of a calendar that was read, and none before the first.
+    pub fn calendar(&self) -> &[MinuteRange]
+        ensures { result.now ≡ calendar_kept self.now }
+    {
+        self.calendar.as_slice()
+    }
+
+    // The row of a calendar, from the fields behind its name. A calendar that is wrong leaves the one before.
+    fn read_calendar(&mut self, fields: &mut Fields<'_>) -> Result<Row, RowFault>
+        requires { lanes_kept self.now ≡ [] }
+        ensures { ReadAs (calendar_row_of (fields_left fields.old)) self.old self.new result }
+    {
+        let mut calendar = UpTo::none(NO_RANGE);
+        calendar.read(fields)?;
+        self.calendar = calendar;
+        Ok(Row::Calendar)
+    }
+
+    // The row of this kind, from the fields behind its name.
+    #[tactic(auto, using(crate::proofs::Alone::plain_row, crate::proofs::Alone::plain_lanes, crate::proofs::Alone::plain_calendar))]
+    fn read_as(&mut self, kind: Kind, fields: &mut Fields<'_>) -> Result<Row, RowFault>
+        requires { lanes_kept self.now ≡ [] }
+        ensures { ReadAs (said_as kind (fields_left fields.old)) self.old self.new result }
+    {
+        match kind {
+            Kind::Sheet => read_sheet(fields),
+            Kind::Strategy => read_strategy(fields).map(Row::Strategy),
+            Kind::Head => read_head(fields),
+            Kind::Calendar => self.read_calendar(fields),
+            Kind::Second => read_second(fields, &mut self.lanes).map(Row::Second),
+            Kind::Seconds => {
+                let count = next_value(fields)?;
+                let second = read_second(fields, &mut self.lanes)?;
+                Ok(Row::Seconds { count, second })
+            }
+            Kind::Reset => read_reset(fields),
+        }
+    }
+
+    // The row of this name, from the fields behind it.
+    #[tactic(auto, using(crate::proofs::Alone::plain_row, crate::proofs::Alone::plain_lanes, crate::proofs::Alone::plain_calendar), unfolding(crate::specs::Rows::row_named))]
+    fn read_named(&mut self, name: &[u8], fields: &mut Fields<'_>) -> Result<Row, RowFault>
+        requires { lanes_kept self.now ≡ [] }
+        ensures { ReadAs (row_named name.now (fields_left fields.old)) self.old self.new result }
+    {
+        match kind_named(name) {
+            Some(kind) => self.read_as(kind, fields),
+            None => read_line(name),
+        }
+    }
+
+    // What a row says, or the first field of it that is wrong. The text is the row's without its ends, as `row_text` gives
+    // it. A row that is wrong leaves the calendar as it was.
+    #[tactic(auto, unfolding(crate::specs::Rows::row_of))]
+    pub fn read(&mut self, text: &[u8]) -> Result<Row, RowFault>
+        ensures { ReadAs (row_of text.now) self.old self.new result }
+    {
+        self.lanes.clear();
+        if is_blank(text) {
+            return Ok(Row::Blank);
+        }
+        let mut fields = Fields::of(text, b';');
+        let name = fields.next().ok_or(RowFault::UnknownKind)?;
+        self.read_named(name, &mut fields)
+    }
+}
