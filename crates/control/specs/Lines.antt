@@ -109,6 +109,11 @@ obeyed (Ok o) (Ok reply) c = commanded o c
 abbrev pub after_line : {S : Type 0} → Sheet → Model S → (line : List ℕ) (room : ℕ) → Model S
 after_line f m line room = with_command (obeyed (order_of line) (line_answer f m line room) m.command) m
 
+-- the bytes of a reply stand in the buffer, and their number comes back
+abbrev pub bytes_of : Result (List ℕ) Refused → Result ℕ Refused
+bytes_of (Ok reply) = Ok (length reply)
+bytes_of (Err e) = Err e
+
 -- the buffer after a line: the reply at its front, and no byte behind it altered
 abbrev pub buffer_after : Result (List ℕ) Refused → List ℕ → List ℕ
 buffer_after (Err e) buffer = buffer

@@ -1,5 +1,5 @@
 -- What a command line and a breaker reset are due to answer by the rules, as far as plan and log tell.
-use Rattle.std.specs.Prelude.{ℕ, cond, not, ◌&&◌, List, [], length, Ok, Err, Result}
+use Rattle.std.specs.Prelude.{ℕ, cond, not, ◌&&◌, List, [], Ok, Err, Result}
 use Rattle.sheet.specs.declared.sheet.Sheet.{Sheet}
 use Rattle.strategy.specs.declared.strategy.Strategy.{Ghosts as StrategyMeaning}
 use Rattle.records.specs.declared.phase.Phase.{Phase}
@@ -47,11 +47,6 @@ answer_due f t room (Ok o) = answered_by room (refused_by t.is_tripped t.mode o)
 -- a breaker reset is due to be taken by a tripped station
 abbrev pub reset_answer_due : Standing → Result (Unit {0}) Refused
 reset_answer_due t = cond t.is_tripped (Ok tt) (Err refused.NotTripped)
-
--- the bytes of a reply stand in the buffer, and their number comes back
-abbrev pub bytes_of : Result (List ℕ) Refused → Result ℕ Refused
-bytes_of (Ok reply) = Ok (length reply)
-bytes_of (Err e) = Err e
 
 module _ {S : Type 0} (st : StrategyMeaning S) (f : Sheet) (s : S) (h : History) where
   -- how the station stands: a trip stands that no breaker reset has ended; the mode; the phase and the running reference cycle as a look shows them

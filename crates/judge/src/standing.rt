@@ -1,8 +1,8 @@
 // How a station stands between two seconds, and what it is due to answer to lines and breaker resets.
 ghost use Rattle.std.specs.Prelude.{◌≡◌, ◌≤◌, length, IfOk};
-ghost use Rattle.control.specs.Lines.{fitted, refused_by, answered_by, buffer_after};
+ghost use Rattle.control.specs.Lines.{fitted, refused_by, answered_by, bytes_of, buffer_after};
 ghost use Rattle.orders.specs.Orders.{order_of};
-ghost use Rattle.judge.specs.Due.{letter_of, reply_due, answer_due, reset_answer_due, bytes_of};
+ghost use Rattle.judge.specs.Due.{letter_of, reply_due, answer_due, reset_answer_due};
 
 use control::answer::Refused;
 use control::lines::check_order;

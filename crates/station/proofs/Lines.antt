@@ -11,10 +11,10 @@ use Rattle.control.specs.declared.answer.Refused.{Refused}
 use Rattle.control.specs.declared.stage.Stage.{Stage}
 use Rattle.control.specs.declared.state.Command.{Command}
 use Rattle.control.specs.declared.state.Mode.{Mode}
-use Rattle.control.specs.Lines.{answer_to, commanded, obeyed, buffer_after}
+use Rattle.control.specs.Lines.{answer_to, commanded, obeyed, bytes_of, buffer_after}
 use Rattle.runlaw.specs.History.{History, Line}
 use Rattle.station.specs.declared.station.Station.{Station}
-use Rattle.station.specs.Lines.{bytes_of, replied, taken_with}
+use Rattle.station.specs.Lines.{replied, taken_with}
 use Rattle.station.specs.Station.{model, with_command, Lived, LineDone}
 
 -- what a line wrote into the buffer is its reply

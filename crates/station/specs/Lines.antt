@@ -5,11 +5,6 @@ use Rattle.orders.specs.declared.fault.OrderFault.{OrderFault}
 use Rattle.control.specs.declared.answer.Refused.{Refused}
 use Rattle.control.specs.declared.answer.Refused.TheVariants.{Order as NoOrder}
 
--- the number of bytes of a reply
-abbrev pub bytes_of : Result (List ℕ) Refused → Result ℕ Refused
-bytes_of (Ok reply) = Ok (length reply)
-bytes_of (Err e) = Err e
-
 -- the reply that such an answer says to stand in the buffer
 abbrev pub replied : Result ℕ Refused → List ℕ → Result (List ℕ) Refused
 replied (Ok n) buffer = Ok (take n buffer)

@@ -14,7 +14,7 @@ use Rattle.control.specs.declared.answer.Answer.{Answer}
 use Rattle.control.specs.declared.answer.Refused.{Refused}
 use Rattle.control.specs.declared.state.Command.{Command}
 use Rattle.loops.specs.Source.{loop_figures}
-use Rattle.control.specs.Lines.{line_answer, obeyed, buffer_after, after_reset, reset_answer}
+use Rattle.control.specs.Lines.{line_answer, obeyed, bytes_of, buffer_after, after_reset, reset_answer}
 use Rattle.control.specs.Model.{Model, Given}
 use Rattle.control.specs.Phases.{phase_of, running_cycle}
 use Rattle.control.specs.Seconds.{after, answer, readings_after, period_put, alarm_put}
@@ -23,7 +23,6 @@ use Rattle.runlaw.specs.Log.{log, colour_shown, phase_shown, cycle_shown, centre
 use Rattle.runlaw.specs.RunLaw.{RunLaw}
 use Rattle.station.specs.declared.station.Station.{Station}
 use Rattle.station.specs.declared.station.field.View.{View}
-use Rattle.station.specs.Lines.{bytes_of}
 use Rattle.station.specs.Parts.{PutInto}
 
 module _ {S H : Type 0} (hd : HeadMeaning H) where

@@ -77,22 +77,30 @@ fn write_time<W: Write>(out: &mut W, at: u64, span: u64) -> io::Result<()> {
     )
 }
 
-// Ends a picture of so many seconds.
-pub(crate) fn frame_end<W: Write>(out: &mut W, seconds: u64) -> io::Result<()> {
+// The marks of the time axis.
+fn write_axis<W: Write>(out: &mut W, seconds: u64) -> io::Result<()> {
     let span = seconds.max(1);
     let step = step_for(seconds);
-    writeln!(out, "</svg>")?;
     for k in 0..=24 {
         let at = step.saturating_mul(k);
         if at <= seconds {
             write_time(out, at, span)?;
         }
     }
+    Ok(())
+}
+
+// The names of what is drawn.
+fn write_names<W: Write>(out: &mut W) -> io::Result<()> {
     for (name, y) in NAMES {
         let y = y.saturating_add(20);
         writeln!(out, "<text x=\"4\" y=\"{y}\">{name}</text>")?;
     }
-    writeln!(out, "<text x=\"4\" y=\"310\">cycle 0-120</text>")?;
+    writeln!(out, "<text x=\"4\" y=\"310\">cycle 0-120</text>")
+}
+
+// What the colours mean.
+fn write_meanings<W: Write>(out: &mut W) -> io::Result<()> {
     for (k, (fill, meaning)) in MEANINGS.iter().enumerate() {
         let x = LEFT.saturating_add((k as u64).saturating_mul(170));
         writeln!(
@@ -102,5 +110,14 @@ pub(crate) fn frame_end<W: Write>(out: &mut W, seconds: u64) -> io::Result<()> {
         let x = x.saturating_add(18);
         writeln!(out, "<text x=\"{x}\" y=\"411\">{meaning}</text>")?;
     }
+    Ok(())
+}
+
+// Ends a picture of so many seconds.
+pub(crate) fn frame_end<W: Write>(out: &mut W, seconds: u64) -> io::Result<()> {
+    writeln!(out, "</svg>")?;
+    write_axis(out, seconds)?;
+    write_names(out)?;
+    write_meanings(out)?;
     writeln!(out, "</svg>")
 }

@@ -90,6 +90,19 @@ impl<W: Write + Drop> Picture<W> {
     }
 }
 
+// Writes the course of a value over so many seconds, from its place at the bottom.
+fn write_course<W: Write>(
+    out: &mut W,
+    bottom: u32,
+    path: &[u8],
+    seconds: u64,
+    colour: &str,
+) -> io::Result<()> {
+    write!(out, "<path d=\"M0 {bottom}")?;
+    out.write_all(path)?;
+    writeln!(out, "H{seconds}\" stroke=\"{colour}\"/>")
+}
+
 impl<W: Write + Drop> Watch for Picture<W> {
     fn answered(&mut self, act: &Act<'_>, answered: &Answered) -> Result<(), Stop> {
         match (act, &answered.outcome) {
@@ -111,12 +124,8 @@ impl<W: Write + Drop> Watch for Picture<W> {
         self.out.write_all(self.colours.shapes.as_slice())?;
         self.out.write_all(self.presence.shapes.as_slice())?;
         self.out.write_all(self.marks.as_slice())?;
-        write!(self.out, "<path d=\"M0 230")?;
-        self.out.write_all(self.queue.path.as_slice())?;
-        writeln!(self.out, "H{at}\" stroke=\"#36a\"/>")?;
-        write!(self.out, "<path d=\"M0 330")?;
-        self.out.write_all(self.cycle.path.as_slice())?;
-        writeln!(self.out, "H{at}\" stroke=\"#063\"/>")?;
+        write_course(&mut self.out, 230, self.queue.path.as_slice(), at, "#36a")?;
+        write_course(&mut self.out, 330, self.cycle.path.as_slice(), at, "#063")?;
         Ok(frame_end(&mut self.out, at)?)
     }
 

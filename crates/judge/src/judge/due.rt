@@ -1,10 +1,10 @@
 // What a command line or a breaker reset that comes next is due to answer by the rules, as far as plan and log tell.
 ghost use Rattle.std.specs.Prelude.{◌≡◌, ◌≤◌, not, ◌&&◌, cond, length, IfOk};
 ghost use Rattle.records.specs.declared.phase.Phase.TheVariants.{Standby};
-ghost use Rattle.control.specs.Lines.{buffer_after};
+ghost use Rattle.control.specs.Lines.{bytes_of, buffer_after};
 ghost use Rattle.runlaw.specs.History.{History};
 ghost use Rattle.runlaw.specs.Log.{in_metering};
-ghost use Rattle.judge.specs.Due.{standing_of, line_due, reset_due, bytes_of};
+ghost use Rattle.judge.specs.Due.{standing_of, line_due, reset_due};
 ghost use Rattle.judge.specs.Judged.{Judged};
 
 use crate::judge::Judge;

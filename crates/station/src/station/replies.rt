@@ -1,9 +1,9 @@
 // What a command line answers, before anything of the station is altered.
 ghost use Rattle.std.specs.Prelude.{◌≡◌, ◌≤◌, length, IfOk};
-ghost use Rattle.control.specs.Lines.{reply_of, fitted, answered_by, refused_by, answer_to, buffer_after};
+ghost use Rattle.control.specs.Lines.{reply_of, fitted, answered_by, refused_by, answer_to, bytes_of, buffer_after};
 ghost use Rattle.control.specs.Phases.{is_tripped};
 ghost use Rattle.orders.specs.Orders.{order_of};
-ghost use Rattle.station.specs.Lines.{bytes_of, taken_with};
+ghost use Rattle.station.specs.Lines.{taken_with};
 
 use crate::station::Station;
 use control::answer::Refused;
