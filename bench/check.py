@@ -1,13 +1,15 @@
 #!/usr/bin/env python3
-"""Measures how long the check of each crate takes: its proofs from nothing, its must-fail edits, and the tests.
+"""Measures the check of the whole repository: the processor time of each crate by kind, and the whole by the clock.
 
-    bench/check.py [CRATE..]    all crates of crates.txt, if none is named; those below a crate have to be checked first
+    bench/check.py            the check from nothing, in a copy of the tree
+    bench/check.py --kept     the same with what earlier runs on this machine kept
 
-It works in a copy of the tree, in the order of crates.txt, and prints a row for each crate. It takes as long as the gate
-from nothing, or longer, as one crate comes after the other.
+The kinds are the proofs of a crate (and the building of it for others), its must-fail edits, and tests and programs. What
+a process used is looked up four times a second, so that the sums are some seconds too low.
 """
 
 import os
+import re
 import shutil
 import subprocess
 import sys
@@ -15,38 +17,91 @@ import tempfile
 import time
 
 TOP = os.path.dirname(os.path.dirname(os.path.abspath(__file__)))
+TICK = os.sysconf("SC_CLK_TCK")
+KINDS = ("proofs", "edits", "tests and programs")
 
 
-def timed(words, folder):
-    before = time.monotonic()
-    ran = subprocess.run(words, cwd=folder, stdin=subprocess.DEVNULL, stdout=subprocess.PIPE, stderr=subprocess.STDOUT, text=True, check=False)
-    return time.monotonic() - before, ran
+def text_of(path):
+    try:
+        with open(path, encoding="utf-8", errors="replace") as it:
+            return it.read()
+    except OSError:
+        return ""
+
+
+def processes():
+    """Every process: its parent, its words, its folder, and the seconds of processor time that it used."""
+    found = {}
+    for pid in (it for it in os.listdir("/proc") if it.isdigit()):
+        stat = text_of(f"/proc/{pid}/stat").rpartition(")")[2].split()
+        if len(stat) < 13:
+            continue
+        words = text_of(f"/proc/{pid}/cmdline").split("\0")
+        try:
+            folder = os.readlink(f"/proc/{pid}/cwd")
+        except OSError:
+            folder = ""
+        found[int(pid)] = (int(stat[1]), words, folder, (int(stat[11]) + int(stat[12])) / TICK)
+    return found
+
+
+def below(found, top):
+    """The processes that `top` started, and those that they started."""
+    def is_below(pid):
+        while pid in found and pid != top:
+            pid = found[pid][0]
+        return pid == top
+    return [pid for pid in found if pid != top and is_below(pid)]
+
+
+def crate_and_kind(found, pid, top):
+    """What a process works on, by its own words or else by those of the nearest process above it that tells."""
+    while pid in found and pid != top:
+        above, words, folder, _ = found[pid]
+        said = " ".join(words)
+        named = re.search(r"--crate-name ([a-z_]+)", said)
+        if named:
+            crate = named.group(1).removesuffix("_tests")
+            if "/rt-edit-" in folder:
+                return crate, "edits"
+            in_tests = "--test" in words or "test" in words[1:2] or crate == "cases"
+            return crate, "tests and programs" if in_tests else "proofs"
+        place = re.search(r"/crates/([a-z_]+)", folder)
+        if place and not said.startswith(("python", "/root")):
+            return place.group(1), "tests and programs"
+        pid = above
+    return "rt", "tests and programs"
 
 
 def main():
-    with open(f"{TOP}/crates.txt", encoding="utf-8") as it:
-        crates = [line.split(":")[0].strip() for line in it if line.strip() and line[0] != "#"]
-    wanted = sys.argv[1:] or crates
+    kept = sys.argv[1:] == ["--kept"]
     with tempfile.TemporaryDirectory() as room:
         tree = f"{room}/tree"
-        shutil.copytree(TOP, tree, ignore=shutil.ignore_patterns(".git", "out", "target"))
-        print("| Crate | Proofs | Must-fail edits | each | Tests |\n|---|---:|---:|---:|---:|")
-        sums = [0, 0, 0]
-        for crate in crates:
-            folder = f"{tree}/crates/{crate}"
-            # a check goes by what an earlier one left on this machine, a verdict begins from nothing
-            if timed(["rt", "check"], folder)[1].returncode:
-                sys.exit(f"{crate} is not proved")
-            if crate not in wanted:
-                continue
-            proofs = timed(["rt", "verdict"], folder)[0]
-            edits = len([it for it in os.listdir(f"{folder}/must-fail") if it.endswith(".edit")]) if os.path.isdir(f"{folder}/must-fail") else 0
-            tried = timed(["rt", "must-fail", crate, "--anew"], tree)[0] if edits else 0
-            tests = timed(["rt", "test"], folder)[0] if crate == "cases" else 0
-            each = f"{tried / edits:.1f} s" if edits else ""
-            print(f"| `{crate}` | {proofs:.0f} s | {tried:.0f} s | {edits} in {each} | {tests:.0f} s |", flush=True)
-            sums = [sums[0] + proofs, sums[1] + tried, sums[2] + tests]
-        print(f"| all | {sums[0] / 60:.1f} min | {sums[1] / 60:.1f} min | | {sums[2] / 60:.1f} min |")
+        shutil.copytree(TOP, tree, ignore=shutil.ignore_patterns("out", "target"))
+        began = time.monotonic()
+        used = {}
+        with open(f"{room}/said", "w+", encoding="utf-8") as said:
+            with subprocess.Popen(["rt", "ci"] + ([] if kept else ["--anew"]), cwd=tree, stdin=subprocess.DEVNULL, stdout=said, stderr=subprocess.STDOUT) as run:
+                while run.poll() is None:
+                    found = processes()
+                    for pid in below(found, run.pid):
+                        used[pid] = (*crate_and_kind(found, pid, run.pid), found[pid][3])
+                    time.sleep(0.25)
+            said.seek(0)
+            last = [line.strip() for line in said if line.startswith("rt: ok") or " passed, " in line]
+        took = time.monotonic() - began
+        sums = {}
+        for crate, kind, seconds in used.values():
+            sums[crate, kind] = sums.get((crate, kind), 0) + seconds
+        crates = [line.split(":")[0].strip() for line in text_of(f"{TOP}/crates.txt").split("\n") if line.strip() and line[0] != "#"]
+        print("| Crate | " + " | ".join(KINDS) + " | edits tried |\n|---|---:|---:|---:|---:|")
+        for crate in crates + ["rt"]:
+            folder = f"{TOP}/crates/{crate}/must-fail"
+            edits = len(os.listdir(folder)) if os.path.isdir(folder) else 0
+            print(f"| `{crate}` | " + " | ".join(f"{sums.get((crate, kind), 0):.0f} s" for kind in KINDS) + f" | {edits or ''} |")
+        print("| all | " + " | ".join(f"{sum(s for (_, k), s in sums.items() if k == kind) / 60:.1f} min" for kind in KINDS) + " | |")
+        print(f"{took / 60:.1f} minutes by the clock, {os.cpu_count()} processors")
+        print("\n".join(last[-2:]))
     return 0
 
 
