@@ -20,6 +20,8 @@ mod numbers;
 #[cfg(test)]
 mod periods;
 #[cfg(test)]
+mod recorded;
+#[cfg(test)]
 mod replies;
 #[cfg(test)]
 mod rings;

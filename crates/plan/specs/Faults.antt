@@ -3,7 +3,7 @@ use Rattle.std.specs.Prelude.{ℕ, List, ◌++◌, codes, decimal}
 use Rattle.plan.specs.declared.row.RowFault.{RowFault}
 use Rattle.plan.specs.declared.row.RowFault.TheVariants.{UnknownKind, Missing, Bad, Surplus}
 use Rattle.plan.specs.declared.row.Wanted.{Wanted}
-use Rattle.plan.specs.declared.row.Wanted.TheVariants.{Number, Presence, Word, Lane, Range, Strategy, Base, Head, Buffer}
+use Rattle.plan.specs.declared.row.Wanted.TheVariants.{Number, Presence, Word, Lane, Range, Strategy, Base, Head, Buffer, Taken, Colour, Phase, Trip}
 
 abbrev pub wanted_text : Wanted → List ℕ
 wanted_text Number = codes "a number from 0 to 4294967295"
@@ -15,6 +15,10 @@ wanted_text Strategy = codes "alinea, plan or limiter"
 wanted_text Base = codes "alinea or plan"
 wanted_text Head = codes "relay or current"
 wanted_text Buffer = codes "line/ and a number from 0 to 1000"
+wanted_text Taken = codes "taken or refused"
+wanted_text Colour = codes "dark, red, amber or flashing"
+wanted_text Phase = codes "a phase"
+wanted_text Trip = codes "a trip or nothing"
 
 abbrev pub fault_text : RowFault → List ℕ
 fault_text UnknownKind =

@@ -10,3 +10,4 @@ pub mod Strategies
 pub mod Rows
 pub mod Faults
 pub mod Reader
+pub mod Recorded

@@ -20,6 +20,10 @@ impl fmt::Display for Wanted {
             Wanted::Base => "alinea or plan",
             Wanted::Head => "relay or current",
             Wanted::Buffer => "line/ and a number from 0 to 1000",
+            Wanted::Taken => "taken or refused",
+            Wanted::Colour => "dark, red, amber or flashing",
+            Wanted::Phase => "a phase",
+            Wanted::Trip => "a trip or nothing",
         })
     }
 }

@@ -1,4 +1,4 @@
-// The rows of a trial plan: what each of them says.
+// The rows of a trial plan, and those of a recorded log: what each of them says.
 #![tactic(auto)]
 
 pub mod fault;
@@ -9,6 +9,7 @@ mod lists;
 pub mod number;
 mod plain;
 pub mod reader;
+pub mod recorded;
 pub mod row;
 mod second;
 mod several;

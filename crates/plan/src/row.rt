@@ -90,4 +90,9 @@ pub enum Wanted {
     Base,
     Head,
     Buffer,
+    // Of a recorded log: `taken` or `refused`, and what a second answered.
+    Taken,
+    Colour,
+    Phase,
+    Trip,
 }

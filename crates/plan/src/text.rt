@@ -14,7 +14,7 @@ fn without_last(text: &[u8], byte: u8) -> &[u8]
 }
 
 // The row without its line feed, and without one carriage return right before that.
-fn without_end(raw: &[u8]) -> &[u8]
+pub fn without_end(raw: &[u8]) -> &[u8]
     ensures { result.now ≡ without_end raw.now }
 {
     match raw {

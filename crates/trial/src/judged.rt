@@ -1,15 +1,15 @@
 // A recorded log, judged by the run law: the plan tells what each act was given, the log what it answered.
 use crate::reading::{Plan, Player, Purpose};
-use crate::recorded::{
-    BadField, Recorded, RecordedLog, SecondRecorded, read_recorded, without_end,
-};
+use crate::recorded::RecordedLog;
 use crate::stop::Stop;
 use control::answer::Refused;
 use judge::judge::{Judge, Seen};
 use judge::verdict::Verdict;
 use lamps::head::LampWords;
 use log_rows::acts::{LineRefused, LineTaken, ResetRefused, ResetTaken};
+use plan::recorded::{RecordedRow, RecordedSecond, read_recorded};
 use plan::row::Row;
+use plan::text::without_end;
 use replay::act::{Act, LineAct, SecondAct};
 use sheet::draft::Refusal;
 use sheet::sheet::Sheet;
@@ -104,18 +104,16 @@ impl<L: Read + Drop, W: Write + Drop> Judging<L, W> {
     }
 
     // The next recorded act. Rows of other kinds are passed over.
-    fn next_act(&mut self) -> Result<Option<Recorded>, Stop> {
+    fn next_act(&mut self) -> Result<Option<RecordedRow>, Stop> {
         // A count, since a `while let` owes a measure that falls, and no contract says that input ends.
         for _ in 0..u64::MAX {
             if !self.recorded.advance()? {
                 break;
             }
             match read_recorded(self.recorded.row()) {
-                Recorded::Other => {}
-                Recorded::Bad(BadField { field, wanted }) => {
-                    return Err(Stop::BadField(self.recorded.number(), field, wanted));
-                }
-                said => return Ok(Some(said)),
+                Ok(RecordedRow::Other) => {}
+                Ok(act) => return Ok(Some(act)),
+                Err(fault) => return Err(Stop::Unread(self.recorded.number(), fault)),
             }
         }
         Ok(None)
@@ -127,9 +125,9 @@ impl<L: Read + Drop, W: Write + Drop> Judging<L, W> {
     }
 
     // The next recorded act, which has to be a second.
-    fn next_second(&mut self) -> Result<SecondRecorded, Stop> {
+    fn next_second(&mut self) -> Result<RecordedSecond, Stop> {
         match self.next_act()? {
-            Some(Recorded::Second(second)) => Ok(second),
+            Some(RecordedRow::Second(second)) => Ok(second),
             _ => Err(self.unlike("the row of a second")),
         }
     }
@@ -137,7 +135,7 @@ impl<L: Read + Drop, W: Write + Drop> Judging<L, W> {
     // The next recorded act, which has to be a command line: was it taken?
     fn next_line(&mut self) -> Result<bool, Stop> {
         match self.next_act()? {
-            Some(Recorded::Line(taken)) => Ok(taken),
+            Some(RecordedRow::Line { taken }) => Ok(taken),
             _ => Err(self.unlike("the row of a command line")),
         }
     }
@@ -145,7 +143,7 @@ impl<L: Read + Drop, W: Write + Drop> Judging<L, W> {
     // The next recorded act, which has to be a breaker reset: was it taken?
     fn next_reset(&mut self) -> Result<bool, Stop> {
         match self.next_act()? {
-            Some(Recorded::Reset(taken)) => Ok(taken),
+            Some(RecordedRow::Reset { taken }) => Ok(taken),
             _ => Err(self.unlike("the row of a breaker reset")),
         }
     }
@@ -204,7 +202,7 @@ struct Judged<S, L, W> {
 impl<S: Strategy, L: Read + Drop, W: Write + Drop> Judged<S, L, W> {
     // A second.
     fn second(&mut self, second: &SecondAct<'_>) -> Result<(), Stop> {
-        let SecondRecorded {
+        let RecordedSecond {
             colour,
             phase,
             trips,

@@ -47,8 +47,8 @@ pub enum Stop {
     NothingPlayed(u32, u32),
     #[error("row {0} of the recorded log: expected {1}")]
     Recorded(u64, &'static str),
-    #[error("row {0} of the recorded log: field {1}: expected {2}")]
-    BadField(u64, u32, &'static str),
+    #[error("row {0} of the recorded log: {1}")]
+    Unread(u64, RowFault),
 }
 
 // Memory that runs out is told as an error of input and output.
