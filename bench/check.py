@@ -30,18 +30,18 @@ def text_of(path):
 
 
 def processes():
-    """Every process: its parent, its words, its folder, and the seconds of processor time that it used."""
+    """Every process: its parent, its words, its folder, when it began, and the seconds of processor time that it used."""
     found = {}
     for pid in (it for it in os.listdir("/proc") if it.isdigit()):
         stat = text_of(f"/proc/{pid}/stat").rpartition(")")[2].split()
-        if len(stat) < 13:
+        if len(stat) < 20:
             continue
         words = text_of(f"/proc/{pid}/cmdline").split("\0")
         try:
             folder = os.readlink(f"/proc/{pid}/cwd")
         except OSError:
             folder = ""
-        found[int(pid)] = (int(stat[1]), words, folder, (int(stat[11]) + int(stat[12])) / TICK)
+        found[int(pid)] = (int(stat[1]), words, folder, stat[19], (int(stat[11]) + int(stat[12])) / TICK)
     return found
 
 
@@ -55,9 +55,12 @@ def below(found, top):
 
 
 def crate_and_kind(found, pid, top):
-    """What a process works on, by its own words or else by those of the nearest process above it that tells."""
+    """What a process works on, by its own words or else by those of the nearest process above it that tells; nothing
+    for a process that is ending, which has no words any more."""
+    if not any(found[pid][1]):
+        return None
     while pid in found and pid != top:
-        above, words, folder, _ = found[pid]
+        above, words, folder = found[pid][:3]
         said = " ".join(words)
         named = re.search(r"--crate-name ([a-z_]+)", said)
         if named:
@@ -85,21 +88,23 @@ def main():
                 while run.poll() is None:
                     found = processes()
                     for pid in below(found, run.pid):
-                        used[pid] = (*crate_and_kind(found, pid, run.pid), found[pid][3])
+                        began_at, seconds = found[pid][3:]
+                        work = crate_and_kind(found, pid, run.pid) or used.get((pid, began_at), (None,))[0]
+                        used[pid, began_at] = (work, seconds)
                     time.sleep(0.25)
             said.seek(0)
             last = [line.strip() for line in said if line.startswith("rt: ok") or " passed, " in line]
         took = time.monotonic() - began
         sums = {}
-        for crate, kind, seconds in used.values():
-            sums[crate, kind] = sums.get((crate, kind), 0) + seconds
+        for work, seconds in used.values():
+            sums[work] = sums.get(work, 0) + seconds
         crates = [line.split(":")[0].strip() for line in text_of(f"{TOP}/crates.txt").split("\n") if line.strip() and line[0] != "#"]
         print("| Crate | " + " | ".join(KINDS) + " | edits tried |\n|---|---:|---:|---:|---:|")
         for crate in crates + ["rt"]:
             folder = f"{TOP}/crates/{crate}/must-fail"
             edits = len(os.listdir(folder)) if os.path.isdir(folder) else 0
             print(f"| `{crate}` | " + " | ".join(f"{sums.get((crate, kind), 0):.0f} s" for kind in KINDS) + f" | {edits or ''} |")
-        print("| all | " + " | ".join(f"{sum(s for (_, k), s in sums.items() if k == kind) / 60:.1f} min" for kind in KINDS) + " | |")
+        print("| all | " + " | ".join(f"{sum(s for work, s in sums.items() if work and work[1] == kind) / 60:.1f} min" for kind in KINDS) + " | |")
         print(f"{took / 60:.1f} minutes by the clock, {os.cpu_count()} processors")
         print("\n".join(last[-2:]))
     return 0
