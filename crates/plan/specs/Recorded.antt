@@ -1,5 +1,5 @@
 -- What the rows of a recorded log say, as far as a judge of runs looks at them.
-use Rattle.std.specs.Prelude.{ℕ, Bool, true, false, cond, not, List, [], ◌∷◌, Some, None, Ok, Err, codes, Option, Result, slice_get}
+use Rattle.std.specs.Prelude.{ℕ, Bool, true, false, cond, not, List, Some, None, Ok, codes, Option, Result, slice_get}
 use Rattle.lamps.specs.declared.colour.Colour.{Colour}
 use Rattle.lamps.specs.declared.colour.Colour.TheVariants as colour
 use Rattle.plan.specs.declared.recorded.RecordedRow.{RecordedRow}

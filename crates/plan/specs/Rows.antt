@@ -12,7 +12,7 @@ use Rattle.plan.specs.declared.row.Wanted.TheVariants.{Number, Head as AHead, Bu
 use Rattle.plan.specs.Decimal.{decimal}
 use Rattle.plan.specs.Fields.{Numbered, fields_of, all_fields, is_empty, past}
 use Rattle.plan.specs.Lists.{calendar_of}
-use Rattle.plan.specs.Seconds.{LanedSecond, second_of}
+use Rattle.plan.specs.Seconds.{second_of}
 use Rattle.plan.specs.Several.{exactly}
 use Rattle.plan.specs.Strategies.{strategy_of}
 use Rattle.plan.specs.Values.{value_at, end_at, given, with, number_in}

@@ -1,5 +1,4 @@
 // The fields that hold words: the lamps' word, heads and strategies.
-ghost use Rattle.std.specs.Prelude.{◌≡◌};
 ghost use Rattle.plan.specs.Words.{word_of, head_of, base_of, strategy_word_of};
 ghost use Rattle.plan.specs.declared.row.Wanted.TheVariants.{Word as AWord, Head, Base, Strategy};
 
