@@ -1,7 +1,5 @@
 // Command lines with what each gives, worked out from the rules.
-use orders::fault::Refusal;
-use orders::order::Order;
-use orders::reader::read_order;
+use orders::{Order, Refusal, read_order};
 use std::process::Abort;
 
 // What a line gives: its order, or the refusal that it is told by.

@@ -1,6 +1,5 @@
 // Copies of what a ring keeps into lists of every length, at every place.
-use records::copying::{copy_front, copy_kept};
-use records::ring::Ring;
+use records::{Ring, copy_front, copy_kept};
 
 // The length of a list of nines, the place from which 3, 4 and 5 are copied into it, how many are, and six nines of which
 // that list is the front.

@@ -1,6 +1,5 @@
 // The counts of a station after a second: each stops at 4,294,967,295.
-use control::stage::Stage;
-use control::state::Counts;
+use control::{Counts, Stage};
 
 const MOST: u32 = 4_294_967_295;
 

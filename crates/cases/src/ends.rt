@@ -1,5 +1,5 @@
 // The ends of rows, and the text of a command.
-use plan::text::{command_text, row_text};
+use plan::{command_text, row_text};
 
 #[test]
 fn ends_of_rows(rt: HostRuntime) {

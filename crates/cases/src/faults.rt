@@ -1,8 +1,6 @@
 // Rows that are not well formed: the first wrong field from the left is told.
 use crate::rows::{read, repeated};
-use plan::reader::Reader;
-use plan::row::{Row, RowFault, Wanted};
-use plan::text::row_text;
+use plan::{Reader, Row, RowFault, Wanted, row_text};
 use std::test::Fail;
 
 // The first wrong field of a row.

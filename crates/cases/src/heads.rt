@@ -1,10 +1,7 @@
 // Lamp heads: orders and cuts, and words through both heads.
 ghost use Rattle.std.specs.Prelude.{◌≡◌, ◌%◌};
 
-use lamps::colour::{Colour, Lamp};
-use lamps::current::CurrentHead;
-use lamps::head::{LampHead, LampWords};
-use lamps::relay::RelayHead;
+use lamps::{Colour, CurrentHead, Lamp, LampHead, LampWords, RelayHead};
 use std::process::Abort;
 
 #[test]

@@ -1,10 +1,8 @@
 // Seconds with their lanes, and calendars.
 use crate::rows::repeated;
-use loops::reading::LaneReading;
-use plan::reader::Reader;
-use plan::row::{Row, RowFault, SecondRow, Word};
-use plan::text::row_text;
-use sheet::calendar::MinuteRange;
+use loops::LaneReading;
+use plan::{Reader, Row, RowFault, SecondRow, Word, row_text};
+use sheet::MinuteRange;
 use std::alloc::AllocError;
 
 // Reads a row, as it is read that is not the first.

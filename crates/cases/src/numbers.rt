@@ -1,5 +1,5 @@
 // Decimal digits with the number that each text writes, worked out by hand.
-use decimals::digits::read_decimal;
+use decimals::read_decimal;
 
 // Texts of digits, and what they write: a number past 64 bits is read as the largest of 64 bits.
 const READ: [(&[u8], u64); 11] = [

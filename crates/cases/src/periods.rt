@@ -1,12 +1,9 @@
 // Periods of lane readings, with flow and occupancy worked out by hand.
-use loops::lane::rules::in_range;
-use loops::reading::LaneReading;
-use loops::tally::PeriodTally;
-use sheet::draft::{Draft, RefusedDraft};
-use sheet::sheet::Sheet;
+use loops::{LaneReading, PeriodTally};
+use sheet::{Draft, RefusedDraft, Sheet};
 use std::process::Abort;
 use std::test::Fail;
-use strategy::measure::Measure;
+use strategy::Measure;
 
 // The figures of a sheet that a case chooses.
 #[derive(Clone, Copy)]
@@ -149,7 +146,7 @@ fn ranges(rt: HostRuntime) {
         (lane(20, 20, 1_001), false),
     ];
     for (reading, answer) in cases {
-        assert_eq!(rt; in_range(reading), answer);
+        assert_eq!(rt; reading.is_in_range(), answer);
     }
 }
 

@@ -1,8 +1,7 @@
 // Rows of a recorded log.
-use lamps::colour::Colour;
-use plan::recorded::{RecordedRow, RecordedSecond, read_recorded};
-use plan::row::{RowFault, Wanted};
-use records::phase::Phase;
+use lamps::Colour;
+use plan::{RecordedRow, RecordedSecond, RowFault, Wanted, read_recorded};
+use records::Phase;
 
 // The row of a second.
 fn second(colour: Colour, phase: Phase, trips: bool) -> RecordedRow {

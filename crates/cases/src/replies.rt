@@ -1,8 +1,7 @@
 // Figures and replies laid into buffers of every length, against what belongs at each place.
 ghost use Rattle.std.specs.Prelude.{◌≤◌, length};
 
-use reply::digits::{digit_count, lay_digits};
-use reply::text::{NoRoom, cycles_reply, status_reply};
+use reply::{NoRoom, cycles_reply, digit_count, lay_digits, status_reply};
 use std::process::Abort;
 use std::test::Fail;
 

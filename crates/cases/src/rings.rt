@@ -1,14 +1,10 @@
 // Rings over none, one, two and five places, of numbers, alarms and periods.
 ghost use Rattle.std.specs.Prelude.{◌≡◌};
 
-use lamps::colour::Lamp;
-use records::alarm::{AlarmRecord, TripCode};
-use records::period::PeriodRecord;
-use records::phase::Phase;
-use records::putting::{count_after, put_in};
-use records::ring::Ring;
+use lamps::Lamp;
+use records::{AlarmRecord, PeriodRecord, Phase, Ring, TripCode, count_after, put_in};
 use std::process::Abort;
-use strategy::measure::Measure;
+use strategy::Measure;
 
 #[test]
 fn codes_of_trips(rt: HostRuntime) {

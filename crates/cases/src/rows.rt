@@ -1,8 +1,5 @@
 // Rows of every kind that are well formed.
-use plan::number::read_number;
-use plan::reader::Reader;
-use plan::row::{Base, HeadKind, Limits, Row, RowFault, StrategyRow};
-use plan::text::row_text;
+use plan::{Base, HeadKind, Limits, Reader, Row, RowFault, StrategyRow, read_number, row_text};
 use std::alloc::{AllocError, Global};
 
 // A row of a plan, as it is read, that is not the first.

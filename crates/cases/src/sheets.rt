@@ -1,5 +1,5 @@
 // Drafts at their limits and beyond them.
-use sheet::draft::{Draft, Refusal};
+use sheet::{Draft, Refusal};
 use std::process::Abort;
 use std::test::Fail;
 

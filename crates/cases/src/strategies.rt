@@ -1,13 +1,8 @@
 // Strategies told one close after another, with the cycles worked out by hand.
-use sheet::draft::{Draft, RefusedDraft};
-use sheet::sheet::Sheet;
+use sheet::{Draft, RefusedDraft, Sheet};
 use std::process::Abort;
 use std::test::Fail;
-use strategy::alinea::Alinea;
-use strategy::hourly::HourlyPlan;
-use strategy::limiter::Limiter;
-use strategy::measure::Measure;
-use strategy::strategy::Strategy;
+use strategy::{Alinea, HourlyPlan, Limiter, Measure, Strategy};
 
 // Gain 70, critical occupancy 200, lowest flow 30, highest 900, first 600.
 fn sheet() -> Result<Sheet, RefusedDraft> {

@@ -2,7 +2,7 @@
 use Rattle.std.specs.Prelude.{ℕ, false, [], None}
 use Rattle.lamps.specs.declared.colour.Colour.TheVariants.{Dark}
 use Rattle.control.specs.declared.stage.Stage.TheVariants.{Standby}
-use Rattle.control.specs.declared.state.Mode.TheVariants.{Local}
+use Rattle.control.specs.declared.command.Mode.TheVariants.{Local}
 use Rattle.control.specs.Model.{Model}
 
 -- standby, local mode, not wanted, no centre's cycle, the head restored and dark, all counts 0

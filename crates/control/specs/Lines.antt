@@ -13,9 +13,9 @@ use Rattle.control.specs.declared.answer.Refused.{Refused}
 use Rattle.control.specs.declared.answer.Refused.TheVariants as refused
 use Rattle.control.specs.declared.stage.Stage.{Stage}
 use Rattle.control.specs.declared.stage.Stage.TheVariants as stage
-use Rattle.control.specs.declared.state.Command.{Command}
-use Rattle.control.specs.declared.state.Mode.{Mode}
-use Rattle.control.specs.declared.state.Mode.TheVariants.{Local, Central}
+use Rattle.control.specs.declared.command.Command.{Command}
+use Rattle.control.specs.declared.command.Mode.{Mode}
+use Rattle.control.specs.declared.command.Mode.TheVariants.{Local, Central}
 use Rattle.control.specs.Figures.{JC}
 use Rattle.control.specs.Model.{Model}
 use Rattle.control.specs.Phases.{running_cycle, is_tripped}

@@ -2,9 +2,9 @@
 use Rattle.std.specs.Prelude.{ℕ, ◌+◌, ◌-◌, min, Bool, cond, ◌&&◌, nat_lt}
 use Rattle.sheet.specs.declared.sheet.Sheet.{Sheet}
 use Rattle.records.specs.Kept.{count_after}
-use Rattle.control.specs.declared.stage.Light.{Light}
-use Rattle.control.specs.declared.stage.Light.TheVariants.{Flash, Amber, Red}
-use Rattle.control.specs.declared.stage.Meter.{Meter}
+use Rattle.control.specs.declared.meter.Light.{Light}
+use Rattle.control.specs.declared.meter.Light.TheVariants.{Flash, Amber, Red}
+use Rattle.control.specs.declared.meter.Meter.{Meter}
 use Rattle.control.specs.declared.stage.Conditions.{Conditions}
 use Rattle.control.specs.declared.stage.Stage.{Stage}
 use Rattle.control.specs.declared.stage.Stage.TheVariants.{Metering, Draining, Closing}

@@ -4,9 +4,9 @@ use Rattle.lamps.specs.declared.colour.Colour.{Colour}
 use Rattle.loops.specs.Rules.{Second}
 use Rattle.sheet.specs.declared.calendar.MinuteRange.{MinuteRange}
 use Rattle.control.specs.declared.stage.Stage.{Stage}
-use Rattle.control.specs.declared.state.Command.{Command}
-use Rattle.control.specs.declared.state.Queue.{Queue}
-use Rattle.control.specs.declared.state.Counts.{Counts}
+use Rattle.control.specs.declared.command.Command.{Command}
+use Rattle.control.specs.declared.queue.Queue.{Queue}
+use Rattle.control.specs.declared.counts.Counts.{Counts}
 
 pub record Model (S : Type 0) : Type 0 where
   -- the strategy's state

@@ -4,8 +4,8 @@ use Rattle.lamps.specs.declared.colour.Colour.{Colour}
 use Rattle.lamps.specs.declared.colour.Colour.TheVariants.{Dark, Red, FixedAmber, FlashingAmber}
 use Rattle.records.specs.declared.phase.Phase.{Phase}
 use Rattle.records.specs.declared.phase.Phase.TheVariants as phase
-use Rattle.control.specs.declared.stage.Light.{Light}
-use Rattle.control.specs.declared.stage.Light.TheVariants as light
+use Rattle.control.specs.declared.meter.Light.{Light}
+use Rattle.control.specs.declared.meter.Light.TheVariants as light
 use Rattle.control.specs.declared.stage.Stage.{Stage}
 use Rattle.control.specs.declared.stage.Stage.TheVariants as stage
 

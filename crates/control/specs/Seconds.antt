@@ -18,14 +18,14 @@ use Rattle.records.specs.declared.phase.Phase.{Phase}
 use Rattle.control.specs.declared.answer.Answer.{Answer}
 use Rattle.control.specs.declared.answer.Trip.{Trip}
 use Rattle.control.specs.declared.stage.Conditions.{Conditions}
-use Rattle.control.specs.declared.stage.Light.TheVariants as light
-use Rattle.control.specs.declared.stage.Light.{Light}
+use Rattle.control.specs.declared.meter.Light.TheVariants as light
+use Rattle.control.specs.declared.meter.Light.{Light}
 use Rattle.control.specs.declared.stage.Stage.{Stage}
 use Rattle.control.specs.declared.stage.Stage.TheVariants as stage
-use Rattle.control.specs.declared.state.Counts.{Counts}
-use Rattle.control.specs.declared.state.Mode.{Mode}
-use Rattle.control.specs.declared.state.Mode.TheVariants.{Local, Central}
-use Rattle.control.specs.declared.state.Queue.{Queue}
+use Rattle.control.specs.declared.counts.Counts.{Counts}
+use Rattle.control.specs.declared.command.Mode.{Mode}
+use Rattle.control.specs.declared.command.Mode.TheVariants.{Local, Central}
+use Rattle.control.specs.declared.queue.Queue.{Queue}
 use Rattle.control.specs.Figures.{TO1, t1, TO2, t2, service_seconds}
 use Rattle.control.specs.Model.{Model, Given}
 use Rattle.control.specs.Phases.{colour_of, phase_of, is_standby, is_tripped, is_draining}

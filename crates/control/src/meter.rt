@@ -1,12 +1,47 @@
 // A second of metering: the reference clock, then the light.
 ghost use Rattle.std.specs.Prelude.{◌≡◌, ◌+◌, false, if◌then◌else◌, ◌&&◌, nat_lt};
-ghost use Rattle.control.specs.declared.stage.Light.TheVariants.{Red};
+ghost use Rattle.control.specs.Phases.{colour_of_light};
+ghost use Rattle.control.specs.declared.meter.Light.TheVariants.{Red};
 ghost use Rattle.control.specs.declared.stage.Stage.TheVariants.{Metering};
 ghost use Rattle.control.specs.Metering.{started, runs, clocked, lit, red_stays, opening, red_step, light_step, metered};
 ghost use Rattle.control.specs.Figures.{RM};
 
-use crate::stage::{Conditions, Light, Meter, Stage};
-use sheet::sheet::Sheet;
+use crate::stage::{Conditions, Stage};
+use lamps::Colour;
+use sheet::Sheet;
+
+// The light of metering: window flash, window amber, red.
+#[derive(Clone, Copy)]
+pub enum Light {
+    Flash,
+    Amber,
+    Red,
+}
+
+// What a metering station keeps: its light with the seconds shown of it, the running reference cycle with its length and
+// the seconds it has lasted (both 0 where none runs), and the arrears: reference cycles begun whose vehicle was not let go.
+// No Option of a reference cycle: none runs only before the first second, which begins one, and each use would match it.
+#[derive(Clone, Copy)]
+pub struct Meter {
+    pub light: Light,
+    pub age: u32,
+    pub length: u32,
+    pub lasted: u32,
+    pub arrears: u32,
+}
+
+impl Light {
+    // The colour of the light.
+    pub fn colour(self) -> Colour
+        ensures { result ≡ colour_of_light self }
+    {
+        match self {
+            Light::Flash => Colour::FlashingAmber,
+            Light::Amber => Colour::FixedAmber,
+            Light::Red => Colour::Red,
+        }
+    }
+}
 
 // The most arrears that are kept.
 const MOST_ARREARS: u32 = 60_000;

@@ -1,10 +1,16 @@
 // The queue on the ramp: for how long it has been full, and for how long cleared.
-ghost use Rattle.std.specs.Prelude.{◌≡◌, ◌+◌, ◌≤◌, min, ◌&&◌, nat_le, nat_lt};
+ghost use Rattle.std.specs.Prelude.{◌≡◌, min, ◌&&◌, nat_le, nat_lt};
 ghost use Rattle.control.specs.Figures.{TO1, TO2};
 ghost use Rattle.control.specs.Seconds.{counted_to, queue_after};
 
-use crate::state::Queue;
-use sheet::sheet::Sheet;
+use sheet::Sheet;
+
+// For how many seconds the queue loop has been above the figure of a full queue, and below that of a cleared one.
+#[derive(Clone, Copy, Default)]
+pub struct Queue {
+    pub over: u32,
+    pub under: u32,
+}
 
 // A count with one more, to at most its limit, while its test holds; else 0.
 fn counted_to(most: u32, holds: bool, count: u32) -> u32

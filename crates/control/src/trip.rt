@@ -3,8 +3,8 @@ ghost use Rattle.std.specs.Prelude.{◌≡◌};
 ghost use Rattle.control.specs.Trips.{is_in, ordered_lamp, is_unwanted, lowest_unwanted, trip_with, trip_of};
 
 use crate::answer::Trip;
-use lamps::colour::{Colour, Lamp};
-use records::alarm::TripCode;
+use lamps::{Colour, Lamp};
+use records::TripCode;
 
 // Is the lamp in the set?
 fn is_in(lamp: Lamp, set: u32) -> bool

@@ -1,5 +1,8 @@
 // Holding a recorded log against the log that is expected, row by row.
 #![tactic(auto)]
 
-pub mod pair;
-pub mod tally;
+mod pair;
+mod tally;
+
+pub use pair::Pair;
+pub use tally::Tally;

@@ -10,9 +10,9 @@ use Rattle.control.specs.declared.answer.Refused.{Refused}
 use Rattle.control.specs.declared.answer.Refused.TheVariants as refused
 use Rattle.control.specs.declared.stage.Stage.{Stage}
 use Rattle.control.specs.declared.stage.Stage.TheVariants as stage
-use Rattle.control.specs.declared.state.Command.{Command}
-use Rattle.control.specs.declared.state.Mode.{Mode}
-use Rattle.control.specs.declared.state.Mode.TheVariants.{Local}
+use Rattle.control.specs.declared.command.Command.{Command}
+use Rattle.control.specs.declared.command.Mode.{Mode}
+use Rattle.control.specs.declared.command.Mode.TheVariants.{Local}
 use Rattle.control.specs.Lines.{line_answer, answer_to, obeyed, status_letter, answered_by, refused_by, reset_taken}
 use Rattle.control.specs.Model.{Model}
 use Rattle.control.specs.Phases.{phase_of, running_cycle, is_tripped}

@@ -4,8 +4,8 @@ use Rattle.orders.specs.declared.order.Order.{Order}
 use Rattle.orders.specs.declared.order.Order.TheVariants as order
 use Rattle.orders.specs.declared.fault.OrderFault.{OrderFault}
 use Rattle.orders.specs.Orders.{order_of}
-use Rattle.control.specs.declared.state.Mode.{Mode}
-use Rattle.control.specs.declared.state.Mode.TheVariants.{Local, Central}
+use Rattle.control.specs.declared.command.Mode.{Mode}
+use Rattle.control.specs.declared.command.Mode.TheVariants.{Local, Central}
 use Rattle.runlaw.specs.History.{History, Second, Line, Reset}
 use Rattle.runlaw.specs.Log.{centres_cycle}
 use Rattle.judge.specs.declared.centre.Centre.{Centre}

@@ -3,8 +3,8 @@ ghost use Rattle.std.specs.Prelude.{◌≡◌, not, ◌&&◌};
 ghost use Rattle.runlaw.specs.Log.{in_metering};
 ghost use Rattle.runlaw.specs.RunLaw.{is_red, is_amber, is_flashing, same};
 
-use lamps::colour::Colour;
-use records::phase::Phase;
+use lamps::Colour;
+use records::Phase;
 
 // The colour and the phase of a second.
 #[derive(Clone, Copy)]

@@ -4,9 +4,9 @@ ghost use Rattle.orders.specs.declared.order.Order.{Order};
 ghost use Rattle.runlaw.specs.Log.{cycle_by_line, length_by};
 ghost use Rattle.judge.specs.Centre.{mode_by_line};
 
-use control::state::Mode;
-use orders::order::Order;
-use strategy::strategy::Strategy;
+use control::Mode;
+use orders::Order;
+use strategy::Strategy;
 
 // The mode, and the centre's cycle if it is set.
 #[derive(Clone, Copy, Default)]

@@ -11,11 +11,10 @@ use crate::spell::Spell;
 use crate::stretch::Stretch;
 use crate::verdict::Kept;
 use crate::wait::Wait;
-use control::counts::is_dark;
-use lamps::colour::Colour;
-use records::phase::Phase;
-use records::putting::count_after;
-use sheet::sheet::Sheet;
+use control::is_dark;
+use lamps::Colour;
+use records::{Phase, count_after};
+use sheet::Sheet;
 
 // What a second showed, whether it tripped, and whether a vehicle stood at the line.
 #[derive(Clone, Copy)]

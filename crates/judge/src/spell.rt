@@ -4,7 +4,7 @@ ghost use Rattle.runlaw.specs.Log.{Log, Row};
 ghost use Rattle.runlaw.specs.RunLaw.{is_opening, Openings};
 ghost use Rattle.judge.specs.Course.{spell_of};
 
-use control::counts::counted_if;
+use control::counted_if;
 
 // The openings of the spell so far, and the reference cycles begun in it.
 #[derive(Clone, Copy, Default)]

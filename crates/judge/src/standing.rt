@@ -4,14 +4,11 @@ ghost use Rattle.control.specs.Lines.{fitted, refused_by, answered_by, bytes_of,
 ghost use Rattle.orders.specs.Orders.{order_of};
 ghost use Rattle.judge.specs.Due.{letter_of, reply_due, answer_due, reset_answer_due};
 
-use control::answer::Refused;
-use control::lines::check_order;
-use control::state::Mode;
-use orders::order::Order;
-use orders::reader::read_order;
-use records::phase::Phase;
-use reply::text::{cycles_reply, status_reply};
-use sheet::sheet::Sheet;
+use control::{Mode, Refused, check_order};
+use orders::{Order, read_order};
+use records::Phase;
+use reply::{cycles_reply, status_reply};
+use sheet::Sheet;
 
 // Whether it is tripped, its mode, its phase, and the running reference cycle, 0 outside metering.
 #[derive(Clone, Copy)]

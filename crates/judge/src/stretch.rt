@@ -6,9 +6,9 @@ ghost use Rattle.runlaw.specs.RunLaw.{MayFollow};
 ghost use Rattle.judge.specs.Course.{aspect_of, stretch_of};
 
 use crate::aspect::{Aspect, is_same};
-use lamps::colour::Colour;
-use records::putting::count_after;
-use sheet::sheet::Sheet;
+use lamps::Colour;
+use records::count_after;
+use sheet::Sheet;
 
 // The seconds of an amber that no window flash came before.
 const OPENING_AMBER: u32 = 5;

@@ -5,8 +5,8 @@ ghost use Rattle.runlaw.specs.Log.{Log, Row};
 ghost use Rattle.runlaw.specs.RunLaw.{waits, Waits};
 ghost use Rattle.judge.specs.Course.{wait_of};
 
-use records::putting::count_after;
-use sheet::sheet::Sheet;
+use records::count_after;
+use sheet::Sheet;
 
 // The longest wait that any sheet and any reference cycle allow.
 const LONGEST: u32 = 115;

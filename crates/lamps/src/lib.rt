@@ -1,9 +1,16 @@
 // Lamp heads: the colours of the light, what a head is, the relay head and the current head.
 #![tactic(auto)]
 
-pub mod code;
-pub mod coded;
-pub mod colour;
-pub mod current;
-pub mod head;
-pub mod relay;
+mod code;
+mod coded;
+mod colour;
+mod current;
+mod head;
+mod relay;
+
+pub use code::LampCode;
+pub use coded::CodedHead;
+pub use colour::{Colour, Lamp};
+pub use current::{CurrentCode, CurrentHead};
+pub use head::{LampHead, LampWords};
+pub use relay::{RelayCode, RelayHead};

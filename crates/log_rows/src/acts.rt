@@ -3,7 +3,7 @@ ghost use Rattle.std.specs.Prelude.{Some};
 ghost use Rattle.log_rows.specs.Whole.{line_taken_text, line_refused_text, reset_taken_text, reset_refused_text};
 
 use crate::fields::Refused;
-use orders::fault::Refusal;
+use orders::Refusal;
 use std::{fmt, str};
 
 // A command line was taken: the bytes of its reply. Where they are not UTF-8, writing the row gives an error.

@@ -2,7 +2,7 @@
 ghost use Rattle.std.specs.Prelude.{Some};
 ghost use Rattle.log_rows.specs.Whole.{totals_text};
 
-use observer::totals::Totals;
+use observer::Totals;
 use std::fmt;
 
 // The closing row of a whole run: its totals.

@@ -1,8 +1,9 @@
 // Fields that more than one row has.
 ghost use Rattle.std.specs.Prelude.{Some};
 ghost use Rattle.log_rows.specs.Fields.{shown_or, refused_text};
+ghost use Rattle.log_rows.specs.Rows.{number_or_dash};
 
-use orders::fault::Refusal;
+use orders::Refusal;
 use std::fmt;
 
 // What an option holds, or a word where it holds nothing.
@@ -36,5 +37,21 @@ impl fmt::Display for Refused {
             word: "",
         };
         write!(f, "refused;{};{value}", self.0.number)
+    }
+}
+
+// A number, or `-` where there is none.
+#[derive(Clone, Copy, Debug, PartialEq, Eq)]
+pub struct OrDash(pub Option<u32>);
+
+impl fmt::Display for OrDash {
+    ghost output = { λ x. Some (number_or_dash x.0) };
+
+    fn fmt<W: fmt::Write>(&self, f: &mut fmt::Formatter<W>) -> fmt::Result {
+        let shown = ShownOr {
+            held: self.0,
+            word: "-",
+        };
+        write!(f, "{shown}")
     }
 }

@@ -1,11 +1,18 @@
 // The rows of a trial's log, and what each writes.
 #![tactic(auto)]
 
-pub mod acts;
-pub mod alarm;
-pub mod closing;
+mod acts;
+mod closing;
 mod fields;
-pub mod period;
-pub mod row;
-pub mod second;
-pub mod words;
+mod record_rows;
+mod second;
+mod sheet_refused;
+mod words;
+
+pub use acts::{LineRefused, LineTaken, ResetRefused, ResetTaken};
+pub use closing::Closing;
+pub use fields::OrDash;
+pub use record_rows::{AlarmRow, PeriodRow};
+pub use second::SecondRow;
+pub use sheet_refused::SheetRefused;
+pub use words::{colour_word, phase_word, sign_word};

@@ -4,7 +4,7 @@ ghost use Rattle.log_rows.specs.Fields.{trip_text};
 ghost use Rattle.log_rows.specs.Whole.{second_text};
 
 use crate::words::{colour_word, phase_word, sign_word};
-use control::answer::{Answer, Trip};
+use control::{Answer, Trip};
 use std::fmt;
 
 // A second: its number, what the station answered, and the length of the running reference cycle after it.

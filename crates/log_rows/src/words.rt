@@ -3,8 +3,8 @@
 ghost use Rattle.std.specs.Prelude.{◌≡◌};
 ghost use Rattle.log_rows.specs.Fields.{colour_text, phase_text, sign_text};
 
-use lamps::colour::Colour;
-use records::phase::Phase;
+use lamps::Colour;
+use records::Phase;
 
 // The word for a colour of the light.
 pub fn colour_word(colour: Colour) -> &'static str

@@ -1,8 +1,13 @@
 // The loops: what the lane readings of a period come to.
 #![tactic(auto)]
 
-pub mod figures;
+mod figures;
 mod interval;
-pub mod lane;
-pub mod reading;
-pub mod tally;
+mod lane;
+mod reading;
+mod tally;
+
+pub use figures::LoopFigures;
+pub use lane::LaneTally;
+pub use reading::LaneReading;
+pub use tally::PeriodTally;

@@ -1,5 +1,8 @@
 // What an observer of a run counts: its seconds, openings, longest wait, trips and refused acts.
 #![tactic(auto)]
 
-pub mod observer;
-pub mod totals;
+mod observer;
+mod totals;
+
+pub use observer::Observer;
+pub use totals::Totals;

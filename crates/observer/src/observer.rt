@@ -6,9 +6,8 @@ ghost use Rattle.observer.specs.Steps.{wait_with};
 ghost use Rattle.observer.specs.Totals.{Shown, observer_of};
 
 use crate::totals::Totals;
-use lamps::colour::Colour;
-use records::phase::Phase;
-use records::putting::count_after;
+use lamps::Colour;
+use records::{Phase, count_after};
 
 // What an observer keeps in mind of a run: its totals so far, whether the newest second was of a window flash, and the seconds of
 // the wait so far.

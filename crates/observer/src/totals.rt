@@ -2,8 +2,8 @@
 ghost use Rattle.std.specs.Prelude.{◌≡◌};
 ghost use Rattle.observer.specs.Steps.{second_added, refusal_added};
 
-use control::counts::counted_if;
-use records::putting::count_after;
+use control::counted_if;
+use records::count_after;
 
 // The figures of a run's closing row; each stops at its highest value.
 #[derive(Clone, Copy, Default)]

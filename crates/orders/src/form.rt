@@ -7,7 +7,7 @@ ghost use Rattle.orders.specs.Reading.{lines_past, Reads};
 use crate::fault::OrderFault;
 use crate::order::{Order, cycle_order, mode_order};
 use crate::tokens::Tokens;
-use decimals::digits::read_decimal;
+use decimals::read_decimal;
 
 // Reads the tokens of a whole line.
 pub(crate) fn read_line(line: &[u8]) -> Result<Order, OrderFault>

@@ -1,10 +1,14 @@
 // Command lines: the tokens of a line, and the order that it gives or why it is refused.
 #![tactic(auto)]
 
-pub mod fault;
+mod fault;
 mod form;
-pub mod laws;
-pub mod order;
-pub mod reader;
-pub mod token;
+mod order;
+mod reader;
+mod token;
 mod tokens;
+
+pub use fault::{OrderFault, ReaderFault, Refusal};
+pub use order::Order;
+pub use reader::{laws_hold, read_order};
+pub use token::Token;

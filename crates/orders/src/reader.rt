@@ -2,6 +2,7 @@
 ghost use Rattle.std.specs.Prelude.{◌≡◌, ◌&&◌, nat_le, not, position};
 ghost use Rattle.orders.specs.Tokens.{known};
 ghost use Rattle.orders.specs.Orders.{length_check, byte_check, order_of};
+ghost use Rattle.orders.specs.Laws.{Laws};
 
 use crate::fault::{OrderFault, ReaderFault};
 use crate::form::read_line;
@@ -52,3 +53,8 @@ pub fn read_order(line: &[u8]) -> Result<Order, OrderFault>
     check_bytes(line)?;
     read_line(line)
 }
+
+// The laws of command lines hold.
+pub fn laws_hold()
+    ensures { Laws }
+{}

@@ -1,7 +1,7 @@
 -- A row that carries no list.
 use Rattle.std.proofs.Common.{◌≡◌, List, [], Ok, Err, Result, refl}
 use Rattle.plan.specs.declared.row.Row.{Row}
-use Rattle.plan.specs.declared.row.RowFault.{RowFault}
+use Rattle.plan.specs.declared.fault.RowFault.{RowFault}
 use Rattle.plan.specs.Reader.{row_in, lanes_said, calendar_after}
 use Rattle.plan.specs.Rows.{plainly}
 use Rattle.sheet.specs.declared.calendar.MinuteRange.{MinuteRange}

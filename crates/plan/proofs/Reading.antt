@@ -2,8 +2,8 @@
 use Rattle.std.proofs.Common.{◌≡◌, ℕ, zero, suc, ◌+◌, ◌-◌, ◌<◌, ◌≤◌, true, false, List, [], ◌∷◌, ◌++◌, length, take, drop, set, Ok, Err, Option, Result, inl, inr, ◌⊎◌, sym, refl, ap, ◌∙◌, arith}
 use Rattle.std.proofs.lemmas.List.{append-nil, append_assoc, length-set, take_all, take_more_set, drop-set-lt, drop-drop}
 use Rattle.std.proofs.lemmas.Bool.{cond-false}
-use Rattle.plan.specs.declared.row.RowFault.{RowFault}
-use Rattle.plan.specs.declared.row.Wanted.{Wanted}
+use Rattle.plan.specs.declared.fault.RowFault.{RowFault}
+use Rattle.plan.specs.declared.fault.Wanted.{Wanted}
 use Rattle.plan.specs.Fields.{Numbered, past, is_empty}
 use Rattle.plan.specs.Values.{value_at, end_at, given}
 use Rattle.plan.specs.Several.{together, at_most, exactly, FilledUp}

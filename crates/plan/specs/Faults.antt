@@ -1,9 +1,9 @@
 -- What is wrong with a row, in words.
 use Rattle.std.specs.Prelude.{ℕ, List, ◌++◌, codes, decimal}
-use Rattle.plan.specs.declared.row.RowFault.{RowFault}
-use Rattle.plan.specs.declared.row.RowFault.TheVariants.{UnknownKind, Missing, Bad, Surplus}
-use Rattle.plan.specs.declared.row.Wanted.{Wanted}
-use Rattle.plan.specs.declared.row.Wanted.TheVariants.{Number, Presence, Word, Lane, Range, Strategy, Base, Head, Buffer, Taken, Colour, Phase, Trip}
+use Rattle.plan.specs.declared.fault.RowFault.{RowFault}
+use Rattle.plan.specs.declared.fault.RowFault.TheVariants.{UnknownKind, Missing, Bad, Surplus}
+use Rattle.plan.specs.declared.fault.Wanted.{Wanted}
+use Rattle.plan.specs.declared.fault.Wanted.TheVariants.{Number, Presence, Word, Lane, Range, Strategy, Base, Head, Buffer, Taken, Colour, Phase, Trip}
 
 abbrev pub wanted_text : Wanted → List ℕ
 wanted_text Number = codes "a number from 0 to 4294967295"

@@ -1,10 +1,10 @@
 -- The lanes of a second and the ranges of a calendar.
 use Rattle.std.specs.Prelude.{ℕ, min, List, [], take, Ok, Err, Result}
 use Rattle.loops.specs.declared.reading.LaneReading.{LaneReading}
-use Rattle.plan.specs.declared.lists.UpTo.{UpTo}
+use Rattle.plan.specs.declared.up_to.UpTo.{UpTo}
 use Rattle.sheet.specs.declared.calendar.MinuteRange.{MinuteRange}
-use Rattle.plan.specs.declared.row.RowFault.{RowFault}
-use Rattle.plan.specs.declared.row.Wanted.TheVariants.{Lane, Range}
+use Rattle.plan.specs.declared.fault.RowFault.{RowFault}
+use Rattle.plan.specs.declared.fault.Wanted.TheVariants.{Lane, Range}
 use Rattle.plan.specs.Fields.{Numbered}
 use Rattle.plan.specs.Several.{at_most}
 use Rattle.plan.specs.Values.{lane_of, range_of}

@@ -3,7 +3,7 @@ use Rattle.std.specs.Prelude.{◌≡◌, List, [], Ok, Err, Some, None, Option, 
 use Rattle.loops.specs.declared.reading.LaneReading.{LaneReading}
 use Rattle.plan.specs.declared.reader.Reader.{Reader}
 use Rattle.plan.specs.declared.row.Row.{Row}
-use Rattle.plan.specs.declared.row.RowFault.{RowFault}
+use Rattle.plan.specs.declared.fault.RowFault.{RowFault}
 use Rattle.plan.specs.Lists.{items_in}
 use Rattle.plan.specs.Rows.{Said}
 use Rattle.plan.specs.Values.{given}

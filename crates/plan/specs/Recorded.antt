@@ -5,10 +5,10 @@ use Rattle.lamps.specs.declared.colour.Colour.TheVariants as colour
 use Rattle.plan.specs.declared.recorded.RecordedRow.{RecordedRow}
 use Rattle.plan.specs.declared.recorded.RecordedRow.TheVariants.{Second, Line, Reset, Other}
 use Rattle.plan.specs.declared.recorded.RecordedSecond.{RecordedSecond}
-use Rattle.plan.specs.declared.recorded.words.TakenWord.{TakenWord}
-use Rattle.plan.specs.declared.recorded.words.TripField.{TripField}
-use Rattle.plan.specs.declared.row.RowFault.{RowFault}
-use Rattle.plan.specs.declared.row.Wanted.TheVariants.{Taken as ATaken, Colour as AColour, Phase as APhase, Trip as ATrip}
+use Rattle.plan.specs.declared.recorded_words.TakenWord.{TakenWord}
+use Rattle.plan.specs.declared.recorded_words.TripField.{TripField}
+use Rattle.plan.specs.declared.fault.RowFault.{RowFault}
+use Rattle.plan.specs.declared.fault.Wanted.TheVariants.{Taken as ATaken, Colour as AColour, Phase as APhase, Trip as ATrip}
 use Rattle.plan.specs.Fields.{Numbered, fields_of, all_fields, is_empty, past}
 use Rattle.plan.specs.Values.{value_at, given}
 use Rattle.plan.specs.Words.{reads}

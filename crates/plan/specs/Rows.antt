@@ -6,9 +6,9 @@ use Rattle.plan.specs.declared.kind.Kind.{Kind}
 use Rattle.plan.specs.declared.kind.Kind.TheVariants.{Sheet as ASheet, Strategy as AStrategy, Head as AHeadRow, Calendar as ACalendar, Second as ASecond, Seconds as ManySeconds, Reset as AReset}
 use Rattle.plan.specs.declared.row.Row.{Row}
 use Rattle.plan.specs.declared.row.Row.TheVariants.{Blank, Sheet, Strategy, Head, Calendar, Second, Seconds, Line, Reset}
-use Rattle.plan.specs.declared.row.RowFault.{RowFault}
-use Rattle.plan.specs.declared.row.RowFault.TheVariants.{UnknownKind, Bad}
-use Rattle.plan.specs.declared.row.Wanted.TheVariants.{Number, Head as AHead, Buffer}
+use Rattle.plan.specs.declared.fault.RowFault.{RowFault}
+use Rattle.plan.specs.declared.fault.RowFault.TheVariants.{UnknownKind, Bad}
+use Rattle.plan.specs.declared.fault.Wanted.TheVariants.{Number, Head as AHead, Buffer}
 use Rattle.plan.specs.Decimal.{decimal}
 use Rattle.plan.specs.Fields.{Numbered, fields_of, all_fields, is_empty, past}
 use Rattle.plan.specs.Lists.{calendar_of}

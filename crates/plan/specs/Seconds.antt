@@ -1,9 +1,9 @@
 -- The fields that tell of a second.
 use Rattle.std.specs.Prelude.{List, [], Ok, Err, Result}
 use Rattle.loops.specs.declared.reading.LaneReading.{LaneReading}
-use Rattle.plan.specs.declared.row.RowFault.{RowFault}
+use Rattle.plan.specs.declared.fault.RowFault.{RowFault}
 use Rattle.plan.specs.declared.row.SecondRow.{SecondRow}
-use Rattle.plan.specs.declared.row.Wanted.TheVariants.{Number, Presence, Word as AWord}
+use Rattle.plan.specs.declared.fault.Wanted.TheVariants.{Number, Presence, Word as AWord}
 use Rattle.plan.specs.Decimal.{decimal}
 use Rattle.plan.specs.Fields.{Numbered, past}
 use Rattle.plan.specs.Lists.{lanes_of}

@@ -1,7 +1,7 @@
 -- Several values of one kind, to the end of a row.
 use Rattle.std.specs.Prelude.{◌≡◌, ℕ, zero, suc, ◌≤◌, cond, List, [], ◌∷◌, length, take, drop, Ok, Err, Option, Result}
-use Rattle.plan.specs.declared.row.RowFault.{RowFault}
-use Rattle.plan.specs.declared.row.Wanted.{Wanted}
+use Rattle.plan.specs.declared.fault.RowFault.{RowFault}
+use Rattle.plan.specs.declared.fault.Wanted.{Wanted}
 use Rattle.plan.specs.Fields.{Numbered, past, is_empty}
 use Rattle.plan.specs.Values.{value_at, end_at, given}
 

@@ -3,9 +3,9 @@ use Rattle.std.specs.Prelude.{ℕ, Ok, Result}
 use Rattle.plan.specs.declared.row.Base.{Base}
 use Rattle.plan.specs.declared.row.Base.TheVariants.{Alinea, Hourly}
 use Rattle.plan.specs.declared.row.Limits.TheVariants.{Unlimited, Once, Twice}
-use Rattle.plan.specs.declared.row.RowFault.{RowFault}
+use Rattle.plan.specs.declared.fault.RowFault.{RowFault}
 use Rattle.plan.specs.declared.row.StrategyRow.{StrategyRow}
-use Rattle.plan.specs.declared.row.Wanted.TheVariants.{Number, Strategy as AStrategy, Base as ABase}
+use Rattle.plan.specs.declared.fault.Wanted.TheVariants.{Number, Strategy as AStrategy, Base as ABase}
 use Rattle.plan.specs.declared.words.BaseWord.{BaseWord}
 use Rattle.plan.specs.declared.words.BaseWord.TheVariants.{Alinea as AlineaWord, Plan}
 use Rattle.plan.specs.declared.words.StrategyWord.{StrategyWord}

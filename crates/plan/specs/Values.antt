@@ -2,10 +2,10 @@
 use Rattle.std.specs.Prelude.{ℕ, Bool, true, false, cond, ◌&&◌, List, [], ◌∷◌, Some, None, Ok, Err, drop, Option, Result, ◌==◌, slice_get}
 use Rattle.std.specs.Option.{ok_or}
 use Rattle.loops.specs.declared.reading.LaneReading.{LaneReading}
-use Rattle.plan.specs.declared.row.RowFault.{RowFault}
-use Rattle.plan.specs.declared.row.RowFault.TheVariants.{Missing, Bad, Surplus}
+use Rattle.plan.specs.declared.fault.RowFault.{RowFault}
+use Rattle.plan.specs.declared.fault.RowFault.TheVariants.{Missing, Bad, Surplus}
 use Rattle.sheet.specs.declared.calendar.MinuteRange.{MinuteRange}
-use Rattle.plan.specs.declared.row.Wanted.{Wanted}
+use Rattle.plan.specs.declared.fault.Wanted.{Wanted}
 use Rattle.plan.specs.Decimal.{decimal}
 use Rattle.plan.specs.Fields.{Numbered, fields_of, is_empty}
 

@@ -1,9 +1,38 @@
-// What is wrong with a row, in words.
+// What can be wrong with a row, and how it is told.
 ghost use Rattle.std.specs.Prelude.{Some};
 ghost use Rattle.plan.specs.Faults.{wanted_text, fault_text};
 
-use crate::row::{RowFault, Wanted};
 use std::fmt;
+
+// The first thing that is wrong with a row. Fields are counted from 1, and the kind of the row is field 1.
+#[derive(Clone, Copy, Debug, PartialEq, Eq)]
+pub enum RowFault {
+    UnknownKind,
+    Missing { field: u32, wanted: Wanted },
+    Bad { field: u32, wanted: Wanted },
+    Surplus { field: u32 },
+}
+
+// What a field should have been.
+#[derive(Clone, Copy, Debug, PartialEq, Eq)]
+pub enum Wanted {
+    Number,
+    Presence,
+    Word,
+    Lane,
+    Range,
+    // `alinea`, `plan` or `limiter`.
+    Strategy,
+    // `alinea` or `plan`, below two limiters.
+    Base,
+    Head,
+    Buffer,
+    // Of a recorded log: `taken` or `refused`, and what a second answered.
+    Taken,
+    Colour,
+    Phase,
+    Trip,
+}
 
 // Names what should have stood in a field.
 impl fmt::Display for Wanted {

@@ -3,14 +3,14 @@ ghost use Rattle.std.specs.Prelude.{◌≡◌};
 ghost use Rattle.plan.specs.Decimal.{decimal};
 ghost use Rattle.plan.specs.Fields.{fields_left, past};
 ghost use Rattle.plan.specs.Values.{number_in, presence_of, lane_of, range_of};
-ghost use Rattle.plan.specs.declared.row.Wanted.TheVariants.{Number, Presence, Lane, Range};
+ghost use Rattle.plan.specs.declared.fault.Wanted.TheVariants.{Number, Presence, Lane, Range};
 
+use crate::fault::Wanted;
 use crate::fields::Fields;
 use crate::number::read_number;
-use crate::row::Wanted;
 use crate::value::Value;
-use loops::reading::LaneReading;
-use sheet::calendar::MinuteRange;
+use loops::LaneReading;
+use sheet::MinuteRange;
 
 impl Value for u32 {
     ghost means = { decimal };

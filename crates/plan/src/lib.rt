@@ -1,19 +1,28 @@
 // The rows of a trial plan, and those of a recorded log: what each of them says.
 #![tactic(auto)]
 
-pub mod fault;
-pub mod fields;
+mod fault;
+mod fields;
 mod figures;
+mod filling;
 mod kind;
-mod lists;
-pub mod number;
-mod plain;
-pub mod reader;
-pub mod recorded;
-pub mod row;
+mod number;
+mod plain_rows;
+mod reader;
+mod recorded;
+mod recorded_words;
+mod row;
 mod second;
-mod several;
 mod strategy_row;
-pub mod text;
+mod text;
+mod up_to;
 mod value;
 mod words;
+
+pub use fault::{RowFault, Wanted};
+pub use fields::Fields;
+pub use number::read_number;
+pub use reader::Reader;
+pub use recorded::{RecordedRow, RecordedSecond, read_recorded};
+pub use row::{Base, HeadKind, Limits, Row, SecondRow, StrategyRow, Word};
+pub use text::{command_text, row_text, without_end};

@@ -2,7 +2,7 @@
 ghost use Rattle.std.specs.Prelude.{◌≡◌};
 ghost use Rattle.plan.specs.Decimal.{decimal};
 
-use decimals::digits::read_decimal;
+use decimals::read_decimal;
 
 // The number that the text writes: one or more decimal digits, at most 4,294,967,295.
 pub fn read_number(text: &[u8]) -> Option<u32>

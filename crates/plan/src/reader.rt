@@ -4,16 +4,17 @@ ghost use Rattle.plan.specs.Fields.{fields_left};
 ghost use Rattle.plan.specs.Reader.{lanes_kept, calendar_kept, ReadAs};
 ghost use Rattle.plan.specs.Rows.{calendar_row_of, said_as, row_named, row_of};
 
+use crate::fault::RowFault;
 use crate::fields::Fields;
 use crate::kind::{Kind, kind_named};
-use crate::lists::UpTo;
-use crate::plain::{is_blank, read_head, read_line, read_reset, read_sheet};
-use crate::row::{Row, RowFault};
+use crate::plain_rows::{is_blank, read_head, read_line, read_reset, read_sheet};
+use crate::row::Row;
 use crate::second::read_second;
 use crate::strategy_row::read_strategy;
+use crate::up_to::UpTo;
 use crate::value::next_value;
-use loops::reading::LaneReading;
-use sheet::calendar::MinuteRange;
+use loops::LaneReading;
+use sheet::MinuteRange;
 
 // What stands in the place of a lane that a row does not tell of.
 const NO_LANE: LaneReading = LaneReading {

@@ -3,14 +3,13 @@ ghost use Rattle.std.specs.Prelude.{◌≡◌};
 ghost use Rattle.plan.specs.Fields.{fields_left};
 ghost use Rattle.plan.specs.Recorded.{second_recorded, taken_recorded, recorded_named, recorded_of};
 
-mod words;
 
+use crate::fault::RowFault;
 use crate::fields::Fields;
-use crate::recorded::words::{TakenWord, TripField, is};
-use crate::row::RowFault;
+use crate::recorded_words::{TakenWord, TripField, is};
 use crate::value::next_value;
-use lamps::colour::Colour;
-use records::phase::Phase;
+use lamps::Colour;
+use records::Phase;
 
 // What a row of a recorded log says.
 #[derive(Clone, Copy, Debug, PartialEq, Eq)]

@@ -1,4 +1,4 @@
-// The rows of a plan as values, and what can be wrong with a row.
+// The rows of a plan as values.
 
 // What one row of a plan says, but for the lanes of a second and the ranges of a calendar: the reader keeps those, so that
 // a row is small.
@@ -65,34 +65,4 @@ pub struct SecondRow {
 pub enum Word {
     Lit,
     Given(u32),
-}
-
-// The first thing that is wrong with a row. Fields are counted from 1, and the kind of the row is field 1.
-#[derive(Clone, Copy, Debug, PartialEq, Eq)]
-pub enum RowFault {
-    UnknownKind,
-    Missing { field: u32, wanted: Wanted },
-    Bad { field: u32, wanted: Wanted },
-    Surplus { field: u32 },
-}
-
-// What a field should have been.
-#[derive(Clone, Copy, Debug, PartialEq, Eq)]
-pub enum Wanted {
-    Number,
-    Presence,
-    Word,
-    Lane,
-    Range,
-    // `alinea`, `plan` or `limiter`.
-    Strategy,
-    // `alinea` or `plan`, below two limiters.
-    Base,
-    Head,
-    Buffer,
-    // Of a recorded log: `taken` or `refused`, and what a second answered.
-    Taken,
-    Colour,
-    Phase,
-    Trip,
 }

@@ -4,11 +4,12 @@ ghost use Rattle.plan.specs.Fields.{fields_left};
 ghost use Rattle.plan.specs.Lists.{items_in};
 ghost use Rattle.plan.specs.Seconds.{second_of, second_in, lanes_in};
 
+use crate::fault::RowFault;
 use crate::fields::Fields;
-use crate::lists::UpTo;
-use crate::row::{RowFault, SecondRow};
+use crate::row::SecondRow;
+use crate::up_to::UpTo;
 use crate::value::next_value;
-use loops::reading::LaneReading;
+use loops::LaneReading;
 
 // The second that the fields left tell of. Its lanes are read into `lanes`.
 pub(crate) fn read_second(

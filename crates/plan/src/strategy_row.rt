@@ -3,9 +3,10 @@ ghost use Rattle.std.specs.Prelude.{◌≡◌};
 ghost use Rattle.plan.specs.Fields.{fields_left};
 ghost use Rattle.plan.specs.Strategies.{base_as, strategy_of, limited_of, twice_of};
 
+use crate::fault::RowFault;
 use crate::fields::Fields;
-use crate::row::{Base, Limits, RowFault, StrategyRow};
-use crate::several::fill_up;
+use crate::filling::fill_up;
+use crate::row::{Base, Limits, StrategyRow};
 use crate::value::{expect_end, next_value};
 use crate::words::{BaseWord, StrategyWord};
 

@@ -1,11 +1,11 @@
 // What stands in one field of a row.
 ghost use Rattle.std.specs.Prelude.{◌≡◌, ℕ, List, Option};
-ghost use Rattle.plan.specs.declared.row.Wanted.{Wanted};
+ghost use Rattle.plan.specs.declared.fault.Wanted.{Wanted};
 ghost use Rattle.plan.specs.Fields.{fields_left, past};
 ghost use Rattle.plan.specs.Values.{value_at, end_at};
 
+use crate::fault::{RowFault, Wanted};
 use crate::fields::Fields;
-use crate::row::{RowFault, Wanted};
 
 // A value that a field can hold.
 pub(crate) trait Value: Copy {

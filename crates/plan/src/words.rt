@@ -1,9 +1,10 @@
 // The fields that hold words: the lamps' word, heads and strategies.
 ghost use Rattle.plan.specs.Words.{word_of, head_of, base_of, strategy_word_of};
-ghost use Rattle.plan.specs.declared.row.Wanted.TheVariants.{Word as AWord, Head, Base, Strategy};
+ghost use Rattle.plan.specs.declared.fault.Wanted.TheVariants.{Word as AWord, Head, Base, Strategy};
 
+use crate::fault::Wanted;
 use crate::number::read_number;
-use crate::row::{HeadKind, Wanted, Word};
+use crate::row::{HeadKind, Word};
 use crate::value::Value;
 
 // A number, or `ok`.

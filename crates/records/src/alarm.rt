@@ -3,7 +3,7 @@ ghost use Rattle.std.specs.Prelude.{◌≡◌};
 ghost use Rattle.records.specs.Codes.{code_number};
 
 use crate::phase::Phase;
-use lamps::colour::Lamp;
+use lamps::Lamp;
 
 // Why a station tripped: the ordered lamp is not lit, or another is.
 #[derive(Clone, Copy, Debug, PartialEq, Eq)]

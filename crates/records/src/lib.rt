@@ -1,9 +1,16 @@
 // Records of periods and alarms, and the ring that keeps the newest of them.
 #![tactic(auto)]
 
-pub mod alarm;
-pub mod copying;
-pub mod period;
-pub mod phase;
-pub mod putting;
-pub mod ring;
+mod alarm;
+mod copying;
+mod period;
+mod phase;
+mod putting;
+mod ring;
+
+pub use alarm::{AlarmRecord, TripCode};
+pub use copying::{copy_front, copy_kept};
+pub use period::PeriodRecord;
+pub use phase::Phase;
+pub use putting::{count_after, put_in};
+pub use ring::Ring;

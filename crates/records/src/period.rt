@@ -1,5 +1,5 @@
 // What is kept of a period.
-use strategy::measure::Measure;
+use strategy::Measure;
 
 // A period that closed: its number from 1, the minute, the measure or none, the strategy's cycle after it, and the
 // openings since the record before.

@@ -1,7 +1,7 @@
 // The acts of a plan.
-use loops::reading::LaneReading;
-use plan::row::Word;
-use sheet::calendar::MinuteRange;
+use loops::LaneReading;
+use plan::Word;
+use sheet::MinuteRange;
 
 // What a station is to be given next.
 #[derive(Clone, Copy)]

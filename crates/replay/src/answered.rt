@@ -1,10 +1,10 @@
 // What the acts of a plan answered.
-use control::answer::{Answer, Refused};
-use records::alarm::AlarmRecord;
-use records::period::PeriodRecord;
-use station::station::field::View;
+ghost use Rattle.std.specs.Prelude.{◌≡◌, ◌-◌, min, length, take};
+ghost use Rattle.replay.specs.Replies.{reply_in};
 
-pub mod kept;
+use control::{Answer, Refused};
+use records::{AlarmRecord, PeriodRecord};
+use station::View;
 
 // An act's outcome, and what was seen of the station right after it.
 #[derive(Clone, Copy)]
@@ -35,4 +35,26 @@ pub struct SecondOutcome {
 pub struct Reply {
     bytes: [u8; 34],
     length: usize,
+}
+
+impl Reply {
+    // The first so many bytes of an answer buffer, of which at most 34 are kept.
+    pub(crate) fn of(buffer: &[u8], bytes: usize) -> Reply
+        ensures { reply_in result ≡ take (min bytes 34) buffer.now }
+    {
+        let length = bytes.min(34).min(buffer.len());
+        let mut kept = [0; 34];
+        kept[..length].copy_from_slice(&buffer[..length]);
+        Reply {
+            bytes: kept,
+            length,
+        }
+    }
+
+    // The bytes of the reply.
+    pub fn as_slice(&self) -> &[u8]
+        ensures { result.now ≡ reply_in self.now }
+    {
+        &self.bytes[..self.length.min(34)]
+    }
 }

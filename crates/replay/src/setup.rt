@@ -2,8 +2,8 @@
 ghost use Rattle.std.specs.Prelude.{◌≡◌, Some, None};
 ghost use Rattle.replay.specs.Setup.{once_in, opening_of, slot_text, misplaced_text};
 
-use plan::row::{HeadKind, StrategyRow};
-use sheet::sheet::Sheet;
+use plan::{HeadKind, StrategyRow};
+use sheet::Sheet;
 use std::fmt;
 
 // What was read so far.

@@ -5,9 +5,9 @@ use Rattle.sheet.specs.declared.sheet.Sheet.{Sheet}
 use Rattle.lamps.specs.declared.colour.Colour.{Colour}
 use Rattle.lamps.specs.declared.colour.Colour.TheVariants.{Red, FixedAmber, FlashingAmber}
 use Rattle.control.specs.declared.stage.Conditions.{Conditions}
-use Rattle.control.specs.declared.stage.Light.{Light}
-use Rattle.control.specs.declared.stage.Light.TheVariants as light
-use Rattle.control.specs.declared.stage.Meter.{Meter}
+use Rattle.control.specs.declared.meter.Light.{Light}
+use Rattle.control.specs.declared.meter.Light.TheVariants as light
+use Rattle.control.specs.declared.meter.Meter.{Meter}
 use Rattle.control.specs.declared.stage.Stage.{Stage}
 use Rattle.control.specs.declared.stage.Stage.TheVariants as stage
 use Rattle.control.specs.Figures.{T2, JC, JF, RM}

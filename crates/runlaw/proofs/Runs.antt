@@ -19,12 +19,12 @@ use Rattle.control.specs.declared.answer.Refused.{Refused}
 use Rattle.control.specs.declared.answer.Refused.TheVariants as refused
 use Rattle.control.specs.declared.answer.Trip.{Trip}
 use Rattle.control.specs.declared.stage.Conditions.{Conditions}
-use Rattle.control.specs.declared.stage.Light.{Light}
-use Rattle.control.specs.declared.stage.Light.TheVariants as light
-use Rattle.control.specs.declared.stage.Meter.{Meter}
+use Rattle.control.specs.declared.meter.Light.{Light}
+use Rattle.control.specs.declared.meter.Light.TheVariants as light
+use Rattle.control.specs.declared.meter.Meter.{Meter}
 use Rattle.control.specs.declared.stage.Stage.{Stage}
 use Rattle.control.specs.declared.stage.Stage.TheVariants as stage
-use Rattle.control.specs.declared.state.Command.{Command}
+use Rattle.control.specs.declared.command.Command.{Command}
 use Rattle.control.specs.Figures.{T1, T2, T3, RM}
 use Rattle.loops.specs.Source.{loop_figures}
 use Rattle.control.specs.Fresh.{fresh}

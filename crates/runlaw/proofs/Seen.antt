@@ -2,9 +2,9 @@
 use Rattle.std.proofs.Common.{◌≡◌, ℕ, ◌+◌, ◌-◌, ◌≤◌, max, Bool, true, false, cond, not, ◌&&◌, ◌||◌, ltb, sym, refl, subst}
 use Rattle.sheet.specs.declared.sheet.Sheet.{Sheet}
 use Rattle.lamps.specs.declared.colour.Colour.{Colour}
-use Rattle.control.specs.declared.stage.Light.{Light}
-use Rattle.control.specs.declared.stage.Light.TheVariants as light
-use Rattle.control.specs.declared.stage.Meter.{Meter}
+use Rattle.control.specs.declared.meter.Light.{Light}
+use Rattle.control.specs.declared.meter.Light.TheVariants as light
+use Rattle.control.specs.declared.meter.Meter.{Meter}
 use Rattle.control.specs.declared.stage.Stage.{Stage}
 use Rattle.control.specs.declared.stage.Stage.TheVariants as stage
 use Rattle.control.specs.Figures.{T2, JC, JF, RM}

@@ -1,7 +1,10 @@
-// The figures of a station as somebody wrote them down, and what can be wrong with them.
+// The figures of a station as somebody wrote them down, accepting them, and what can be wrong with them.
 ghost use Rattle.std.specs.Prelude.{◌≡◌};
 ghost use Rattle.sheet.specs.Draft.{figures_of};
 ghost use Rattle.sheet.specs.Causes.{refusal_of};
+
+use crate::limits::check;
+use crate::sheet::Sheet;
 
 // A draft: nothing is known of its figures yet. It can't be copied, and accepting uses it up.
 #[derive(Debug, Drop)]
@@ -31,6 +34,8 @@ pub struct Draft {
 }
 
 impl Draft {
+    ghost use Rattle.sheet.specs.Judged.{Judged};
+
     // The draft with these figures, in the order of their numbers.
     pub fn new(figures: [u32; 22]) -> Draft
         ensures { figures_of result ≡ figures }
@@ -113,6 +118,16 @@ impl Draft {
             self.highest_flow,
             self.first_flow,
         ]
+    }
+
+    // Uses the draft up. Gives an accepted sheet, or hands the draft back with the cause.
+    pub fn accept(self) -> Result<Sheet, RefusedDraft>
+        ensures { Judged self result }
+    {
+        match check(&self) {
+            Ok(()) => Ok(Sheet { draft: self }),
+            Err(cause) => Err(RefusedDraft { cause, draft: self }),
+        }
     }
 }
 

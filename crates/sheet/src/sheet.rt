@@ -1,16 +1,13 @@
 // An accepted sheet: what accepting found out of each figure stands in its type.
-ghost use Rattle.std.specs.Prelude.{◌<◌, ◌≤◌};
+ghost use Rattle.std.specs.Prelude.{◌<◌, ◌≤◌, ◌≡◌};
 ghost use Rattle.sheet.specs.Limits.{Within};
 
 use crate::draft::Draft;
 
-pub mod accept;
-pub mod read;
-
 // An accepted sheet. Only `accept` makes one, and it can't be copied.
 #[derive(Debug, Drop)]
 pub struct Sheet {
-    draft: Draft,
+    pub(crate) draft: Draft,
     ghost station_within: { Within 1 draft.«station» },
     ghost opening_flash_within: { Within 2 draft.opening_flash },
     ghost opening_red_within: { Within 3 draft.opening_red },
@@ -36,4 +33,13 @@ pub struct Sheet {
     ghost cleared_below_full: { draft.queue_cleared < draft.queue_full },
     ghost first_flow_not_below: { draft.lowest_flow ≤ draft.first_flow },
     ghost first_flow_not_above: { draft.first_flow ≤ draft.highest_flow },
+}
+
+impl Sheet {
+    // The figures, as the accepted draft had them.
+    pub fn figures(&self) -> &Draft
+        ensures { result.now ≡ self.now.draft }
+    {
+        &self.draft
+    }
 }

@@ -9,8 +9,8 @@ use Rattle.orders.specs.declared.fault.OrderFault.{OrderFault}
 use Rattle.orders.specs.Orders.{order_of}
 use Rattle.control.specs.declared.answer.Refused.{Refused}
 use Rattle.control.specs.declared.stage.Stage.{Stage}
-use Rattle.control.specs.declared.state.Command.{Command}
-use Rattle.control.specs.declared.state.Mode.{Mode}
+use Rattle.control.specs.declared.command.Command.{Command}
+use Rattle.control.specs.declared.command.Mode.{Mode}
 use Rattle.control.specs.Lines.{answer_to, commanded, obeyed, bytes_of, buffer_after}
 use Rattle.runlaw.specs.History.{History, Line}
 use Rattle.station.specs.declared.station.Station.{Station}

@@ -12,7 +12,7 @@ use Rattle.records.specs.Kept.{capped}
 use Rattle.orders.specs.Orders.{order_of}
 use Rattle.control.specs.declared.answer.Answer.{Answer}
 use Rattle.control.specs.declared.answer.Refused.{Refused}
-use Rattle.control.specs.declared.state.Command.{Command}
+use Rattle.control.specs.declared.command.Command.{Command}
 use Rattle.loops.specs.Source.{loop_figures}
 use Rattle.control.specs.Lines.{line_answer, obeyed, bytes_of, buffer_after, after_reset, reset_answer}
 use Rattle.control.specs.Model.{Model, Given}
@@ -22,7 +22,7 @@ use Rattle.runlaw.specs.History.{Act, History, WentThrough}
 use Rattle.runlaw.specs.Log.{log, colour_shown, phase_shown, cycle_shown, centres_cycle, state_after, closes}
 use Rattle.runlaw.specs.RunLaw.{RunLaw}
 use Rattle.station.specs.declared.station.Station.{Station}
-use Rattle.station.specs.declared.station.field.View.{View}
+use Rattle.station.specs.declared.field.View.{View}
 use Rattle.station.specs.Parts.{PutInto}
 
 module _ {S H : Type 0} (hd : HeadMeaning H) where

@@ -1,9 +1,15 @@
 // Strategies: which reference cycle a station orders, from what its loops measured.
 #![tactic(auto)]
 
-pub mod alinea;
+mod alinea;
 mod drawn;
-pub mod hourly;
-pub mod limiter;
-pub mod measure;
-pub mod strategy;
+mod hourly;
+mod limiter;
+mod measure;
+mod strategy;
+
+pub use alinea::Alinea;
+pub use hourly::HourlyPlan;
+pub use limiter::Limiter;
+pub use measure::Measure;
+pub use strategy::Strategy;

@@ -3,12 +3,10 @@ use crate::recorded::RecordedLog;
 use crate::stop::Stop;
 use crate::watch::Watch;
 use crate::written::{write_answered, write_closing, write_refused};
-use hold::pair::Pair;
-use hold::tally::Tally;
-use observer::totals::Totals;
-use replay::act::Act;
-use replay::answered::Answered;
-use sheet::draft::Refusal;
+use hold::{Pair, Tally};
+use observer::Totals;
+use replay::{Act, Answered};
+use sheet::Refusal;
 use std::alloc::Global;
 use std::io::{Read, Write};
 

@@ -2,20 +2,16 @@
 use crate::reading::{Plan, Player, Purpose};
 use crate::recorded::RecordedLog;
 use crate::stop::Stop;
-use control::answer::Refused;
-use judge::judge::{Judge, Seen};
-use judge::verdict::Verdict;
-use lamps::head::LampWords;
-use log_rows::acts::{LineRefused, LineTaken, ResetRefused, ResetTaken};
-use plan::recorded::{RecordedRow, RecordedSecond, read_recorded};
-use plan::row::Row;
-use plan::text::without_end;
-use replay::act::{Act, LineAct, SecondAct};
-use sheet::draft::Refusal;
-use sheet::sheet::Sheet;
+use control::Refused;
+use judge::{Judge, Seen, Verdict};
+use lamps::LampWords;
+use log_rows::{LineRefused, LineTaken, ResetRefused, ResetTaken};
+use plan::{RecordedRow, RecordedSecond, Row, read_recorded, without_end};
+use replay::{Act, LineAct, SecondAct};
+use sheet::{Refusal, Sheet};
 use std::alloc::Global;
 use std::io::{self, Read, Write};
-use strategy::strategy::Strategy;
+use strategy::Strategy;
 
 // How many acts against the rules are told, at most.
 const MOST_TOLD: u64 = 10;

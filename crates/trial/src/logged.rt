@@ -2,10 +2,9 @@
 use crate::stop::Stop;
 use crate::watch::Watch;
 use crate::written::{write_answered, write_closing, write_refused};
-use observer::totals::Totals;
-use replay::act::Act;
-use replay::answered::Answered;
-use sheet::draft::Refusal;
+use observer::Totals;
+use replay::{Act, Answered};
+use sheet::Refusal;
 use std::io::Write;
 
 // Writes the log here, row by row.

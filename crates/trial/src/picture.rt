@@ -3,12 +3,11 @@ use crate::frame::{frame_end, frame_start};
 use crate::stop::Stop;
 use crate::strip::{Line, Strip};
 use crate::watch::Watch;
-use lamps::colour::Colour;
-use observer::totals::Totals;
-use replay::act::{Act, SecondAct};
-use replay::answered::{Answered, Outcome, SecondOutcome};
-use sheet::draft::Refusal;
-use station::station::field::View;
+use lamps::Colour;
+use observer::Totals;
+use replay::{Act, Answered, Outcome, SecondAct, SecondOutcome};
+use sheet::Refusal;
+use station::View;
 use std::alloc::Global;
 use std::io::{self, Write};
 

@@ -2,15 +2,13 @@
 use crate::reading::{Plan, Player, Purpose};
 use crate::stop::Stop;
 use crate::watch::Watch;
-use lamps::head::LampWords;
-use observer::totals::Totals;
-use plan::row::Row;
-use replay::act::Act;
-use replay::run::Run;
-use sheet::draft::Refusal;
-use sheet::sheet::Sheet;
+use lamps::LampWords;
+use observer::Totals;
+use plan::Row;
+use replay::{Act, Run};
+use sheet::{Refusal, Sheet};
 use std::io::Read;
-use strategy::strategy::Strategy;
+use strategy::Strategy;
 
 // A run, and who watches it.
 #[derive(Drop)]

@@ -2,21 +2,13 @@
 use crate::rows::Rows;
 use crate::stop::Stop;
 use crate::told::second_act;
-use lamps::current::CurrentHead;
-use lamps::head::LampWords;
-use lamps::relay::RelayHead;
-use plan::row::{Base, HeadKind, Limits, Row};
-use plan::text::command_text;
-use replay::act::{Act, LineAct};
-use replay::setup::{Misplaced, Opening, Setup, Slot};
-use sheet::draft::{Draft, Refusal};
-use sheet::sheet::Sheet;
+use lamps::{CurrentHead, LampWords, RelayHead};
+use plan::{Base, HeadKind, Limits, Row, command_text};
+use replay::{Act, LineAct, Misplaced, Opening, Setup, Slot};
+use sheet::{Draft, Refusal, Sheet};
 use std::alloc::Global;
 use std::io::Read;
-use strategy::alinea::Alinea;
-use strategy::hourly::HourlyPlan;
-use strategy::limiter::Limiter;
-use strategy::strategy::Strategy;
+use strategy::{Alinea, HourlyPlan, Limiter, Strategy};
 
 // What the acts of a plan are played on, one by one, until they end.
 pub(crate) trait Player {

@@ -1,6 +1,6 @@
 // A recorded log, row by row as it is read.
 use crate::stop::Stop;
-use plan::text::without_end;
+use plan::without_end;
 use std::alloc::Global;
 use std::io::{BufRead, BufReader, Read};
 

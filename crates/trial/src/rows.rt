@@ -1,8 +1,6 @@
 // The rows of a plan, one by one, as they are read.
 use crate::stop::{Fault, Stop};
-use plan::reader::Reader;
-use plan::row::Row;
-use plan::text::row_text;
+use plan::{Reader, Row, row_text};
 use std::alloc::Global;
 use std::io::{BufRead, BufReader, Read};
 

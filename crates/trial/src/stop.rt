@@ -1,7 +1,7 @@
 // Why a run ends early.
-use plan::row::RowFault;
-use replay::setup::Misplaced;
-use sheet::draft::Refusal;
+use plan::RowFault;
+use replay::Misplaced;
+use sheet::Refusal;
 use std::alloc::AllocError;
 use std::io;
 use thiserror::Error;

@@ -1,9 +1,8 @@
 // What a row of a second tells the station.
 ghost use Rattle.trial.specs.Told.{ToldBy};
 
-use plan::reader::Reader;
-use plan::row::SecondRow;
-use replay::act::SecondAct;
+use plan::{Reader, SecondRow};
+use replay::SecondAct;
 
 // The act of the second that was read last, with the calendar at the moment.
 pub(crate) fn second_act<'a>(row: &SecondRow, reader: &'a Reader) -> SecondAct<'a>

@@ -1,9 +1,8 @@
 // Those who watch a plan being played.
 use crate::stop::Stop;
-use observer::totals::Totals;
-use replay::act::Act;
-use replay::answered::Answered;
-use sheet::draft::Refusal;
+use observer::Totals;
+use replay::{Act, Answered};
+use sheet::Refusal;
 
 // Who watches sees each act with its answer, in their order, and then the totals; or that the sheet is refused.
 pub(crate) trait Watch {

@@ -2,17 +2,15 @@
 ghost use Rattle.std.specs.Prelude.{◌≡◌};
 ghost use Rattle.trial.specs.Written.{row_of};
 
-use control::answer::Refused;
-use log_rows::acts::{LineRefused, LineTaken, ResetRefused, ResetTaken};
-use log_rows::alarm::AlarmRow;
-use log_rows::closing::Closing;
-use log_rows::period::PeriodRow;
-use log_rows::row::SheetRefused;
-use log_rows::second::SecondRow;
-use observer::totals::Totals;
-use replay::answered::{Answered, Outcome, Reply, SecondOutcome};
-use sheet::draft::Refusal;
-use station::station::field::View;
+use control::Refused;
+use log_rows::{
+    AlarmRow, Closing, LineRefused, LineTaken, PeriodRow, ResetRefused, ResetTaken, SecondRow,
+    SheetRefused,
+};
+use observer::Totals;
+use replay::{Answered, Outcome, Reply, SecondOutcome};
+use sheet::Refusal;
+use station::View;
 use std::io::{self, Write};
 
 // The row of a second.
