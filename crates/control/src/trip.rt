@@ -1,17 +1,10 @@
 // The lamps against the colour: when a station trips.
 ghost use Rattle.std.specs.Prelude.{◌≡◌};
-ghost use Rattle.control.specs.Trips.{is_in, ordered_lamp, is_unwanted, lowest_unwanted, trip_with, trip_of};
+ghost use Rattle.control.specs.Trips.{ordered_lamp, is_unwanted, lowest_unwanted, trip_with, trip_of};
 
 use crate::answer::Trip;
-use lamps::{Colour, Lamp};
+use lamps::{Colour, Lamp, LampSet};
 use records::TripCode;
-
-// Is the lamp in the set?
-fn is_in(lamp: Lamp, set: u32) -> bool
-    ensures { result ≡ is_in lamp set }
-{
-    set / lamp.number() % 2 == 1
-}
 
 // The lamp that the colour orders.
 fn lamp_of(colour: Colour) -> Option<Lamp>
@@ -27,14 +20,14 @@ fn lamp_of(colour: Colour) -> Option<Lamp>
 
 // Is the lamp lit without being ordered? What is lit and what is ordered stay two values: one comes from the lamps, one from
 // the head, and nothing keeps them together.
-fn is_unwanted(lit: u32, colour: Colour, lamp: Lamp) -> bool
+fn is_unwanted(lit: LampSet, colour: Colour, lamp: Lamp) -> bool
     ensures { result ≡ is_unwanted lit colour lamp }
 {
-    is_in(lamp, lit) && !is_in(lamp, colour.lamps())
+    lit.contains(lamp) && !colour.lamps().contains(lamp)
 }
 
 // The lowest lamp that is lit without being ordered.
-fn lowest_unwanted(lit: u32, colour: Colour) -> Lamp
+fn lowest_unwanted(lit: LampSet, colour: Colour) -> Lamp
     ensures { result ≡ lowest_unwanted lit colour }
 {
     if is_unwanted(lit, colour, Lamp::Red) {
@@ -47,11 +40,11 @@ fn lowest_unwanted(lit: u32, colour: Colour) -> Lamp
 }
 
 // The ordered lamp if it is not lit, else the one that is lit without being ordered.
-fn trip_with(lit: u32, ordered: Option<Lamp>, unwanted: Lamp) -> Trip
+fn trip_with(lit: LampSet, ordered: Option<Lamp>, unwanted: Lamp) -> Trip
     ensures { result ≡ trip_with lit ordered unwanted }
 {
     match ordered {
-        Some(lamp) if !is_in(lamp, lit) => Trip {
+        Some(lamp) if !lit.contains(lamp) => Trip {
             code: TripCode::NotLit,
             lamp,
         },
@@ -63,7 +56,7 @@ fn trip_with(lit: u32, ordered: Option<Lamp>, unwanted: Lamp) -> Trip
 }
 
 // The trip of a second in which these lamps are lit and this colour is ordered, if it trips.
-pub fn trip_of(lit: u32, colour: Colour) -> Option<Trip>
+pub fn trip_of(lit: LampSet, colour: Colour) -> Option<Trip>
     ensures { result ≡ trip_of lit colour }
 {
     if lit == colour.lamps() {

@@ -3,3 +3,4 @@ pub mod Orders
 pub mod Words
 pub mod Bounds
 pub mod Meanings
+pub mod Chosen

@@ -5,6 +5,7 @@ ghost use Rattle.lamps.specs.Meanings.{new_head, coded_meaning};
 use crate::code::LampCode;
 use crate::colour::Colour;
 use crate::head::{LampHead, LampWords};
+use crate::set::LampSet;
 use std::marker::PhantomData;
 
 // The colour ordered, or none while the head is cut.
@@ -45,7 +46,7 @@ impl<C: LampCode> LampHead for CodedHead<C> {
         self.colour.unwrap_or(Colour::Dark)
     }
 
-    fn read(&self, word: u32) -> u32 {
+    fn read(&self, word: u32) -> LampSet {
         C::read(word)
     }
 
@@ -59,7 +60,7 @@ impl<C: LampCode> LampHead for CodedHead<C> {
 }
 
 impl<C: LampCode> LampWords for CodedHead<C> {
-    fn word_for(&self, lit: u32) -> u32 {
+    fn word_for(&self, lit: LampSet) -> u32 {
         C::word_for(lit)
     }
 }

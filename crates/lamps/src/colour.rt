@@ -2,6 +2,8 @@
 ghost use Rattle.std.specs.Prelude.{◌≡◌};
 ghost use Rattle.lamps.specs.Sets.{number_of, lamps_of};
 
+use crate::set::LampSet;
+
 // A lamp of the head.
 #[derive(Clone, Copy, Debug, PartialEq, Eq)]
 pub enum Lamp {
@@ -34,14 +36,14 @@ pub enum Colour {
 
 impl Colour {
     // The set of lamps that are lit when the head shows this colour.
-    pub fn lamps(self) -> u32
+    pub fn lamps(self) -> LampSet
         ensures { result ≡ lamps_of self }
     {
         match self {
-            Colour::Dark => 0,
-            Colour::Red => Lamp::Red.number(),
-            Colour::FixedAmber => Lamp::FixedAmber.number(),
-            Colour::FlashingAmber => Lamp::FlashingAmber.number(),
+            Colour::Dark => LampSet::empty(),
+            Colour::Red => LampSet::of(Lamp::Red),
+            Colour::FixedAmber => LampSet::of(Lamp::FixedAmber),
+            Colour::FlashingAmber => LampSet::of(Lamp::FlashingAmber),
         }
     }
 }

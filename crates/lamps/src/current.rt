@@ -6,6 +6,7 @@ ghost use Rattle.lamps.specs.Meanings.{current_code};
 use crate::code::LampCode;
 use crate::coded::CodedHead;
 use crate::colour::Lamp;
+use crate::set::LampSet;
 
 // The least current of a lamp that is lit.
 const LIT_FROM: u8 = 20;
@@ -48,12 +49,14 @@ fn lit_part(word: u32, lamp: Lamp) -> u32
 }
 
 // The set of the lamps that a word has lit.
-fn lit_set(word: u32) -> u32
+fn lit_set(word: u32) -> LampSet
     ensures { result ≡ current_set word }
 {
-    lit_part(word, Lamp::Red)
-        + lit_part(word, Lamp::FixedAmber)
-        + lit_part(word, Lamp::FlashingAmber)
+    LampSet::from_bits(
+        lit_part(word, Lamp::Red)
+            + lit_part(word, Lamp::FixedAmber)
+            + lit_part(word, Lamp::FlashingAmber),
+    )
 }
 
 // The least current if the bit is set, else none.
@@ -82,11 +85,11 @@ impl LampCode for CurrentCode {
 
     ghost every = { current_code.every };
 
-    fn read(word: u32) -> u32 {
+    fn read(word: u32) -> LampSet {
         lit_set(word)
     }
 
-    fn word_for(lit: u32) -> u32 {
-        word_of(lit % 8)
+    fn word_for(lit: LampSet) -> u32 {
+        word_of(lit.bits())
     }
 }

@@ -1,10 +1,11 @@
 // What every lamp head is.
-ghost use Rattle.std.specs.Prelude.{◌≡◌, Bool, true, false, ℕ, ◌%◌, ◌^◌, ◌<◌};
+ghost use Rattle.std.specs.Prelude.{◌≡◌, Bool, true, false, ℕ, ◌^◌, ◌<◌};
 ghost use Rattle.lamps.specs.declared.colour.Colour.{Colour};
 ghost use Rattle.lamps.specs.declared.colour.Colour.TheVariants.{Dark};
 ghost use Rattle.lamps.specs.Orders.{colour_after};
 
 use crate::colour::Colour;
+use crate::set::LampSet;
 
 // A head's meaning is the colour ordered, whether it is cut, and the set of lamps that each 32-bit lamp word stands for.
 // Every word stands for a set of 0 to 7, and every set of 0 to 7 has a word.
@@ -31,8 +32,8 @@ pub trait LampHead {
         ensures value { result ≡ colour self.now }
         ensures same { self.exit.now ≡ self.entry.now };
 
-    // Answers the set of lamps that a lamp word stands for.
-    fn read(&self, word: u32) -> u32
+    /// The set of lamps that a lamp word stands for.
+    fn read(&self, word: u32) -> LampSet
         ensures value { result ≡ shows self.now word }
         ensures same { self.exit.now ≡ self.entry.now };
 
@@ -51,8 +52,8 @@ pub trait LampHead {
 
 // A head that can also give a lamp word for a set of lamps, so that a plan of seconds can be replayed.
 pub trait LampWords: LampHead {
-    // A word that stands for this set; of a number above 7 its remainder by 8 is taken for the set.
-    fn word_for(&self, lit: u32) -> u32
-        ensures value { Self.LampHead.shows self.now result ≡ lit % 8 }
+    /// A word that stands for this set.
+    fn word_for(&self, lit: LampSet) -> u32
+        ensures value { Self.LampHead.shows self.now result ≡ lit }
         ensures same { self.exit.now ≡ self.entry.now };
 }

@@ -10,13 +10,13 @@ ghost use Rattle.control.specs.Trips.{trip_of};
 ghost use Rattle.station.specs.Parts.{PutInto};
 
 use control::{Conditions, Counts, Stage, Trip, trip_of};
-use lamps::{Colour, LampHead};
+use lamps::{Colour, LampHead, LampSet};
 use records::{AlarmRecord, PeriodRecord, Phase, Ring, count_after};
 use sheet::Sheet;
 use strategy::{Measure, Strategy};
 
 // The trip of a second, unless the station is tripped already.
-pub(crate) fn trip_now(tripped: bool, lit: u32, colour: Colour) -> Option<Trip>
+pub(crate) fn trip_now(tripped: bool, lit: LampSet, colour: Colour) -> Option<Trip>
     ensures { result ≡ (if tripped then None else trip_of lit colour) }
 {
     if tripped { None } else { trip_of(lit, colour) }

@@ -4,3 +4,4 @@ pub mod Hourly
 pub mod Limiter
 pub mod Bounds
 pub mod Meanings
+pub mod Chosen

@@ -2,6 +2,7 @@
 #![tactic(auto)]
 
 mod alinea;
+mod chosen;
 mod drawn;
 mod hourly;
 mod limiter;
@@ -9,6 +10,7 @@ mod measure;
 mod strategy;
 
 pub use alinea::Alinea;
+pub use chosen::{BaseStrategy, ChosenStrategy};
 pub use hourly::HourlyPlan;
 pub use limiter::Limiter;
 pub use measure::Measure;
