@@ -2,3 +2,4 @@ pub mod Setup
 pub mod Replies
 pub mod Acts
 pub mod Played
+pub mod Asked

@@ -1,10 +1,13 @@
 // The rows that a plan has before its first act: sheet, strategy and head, once each, in any order.
 ghost use Rattle.std.specs.Prelude.{◌≡◌, Some, None};
+ghost use Rattle.replay.specs.Asked.{IsAsked, IsFreshBase, head_asked};
 ghost use Rattle.replay.specs.Setup.{once_in, opening_of, slot_text, misplaced_text};
 
-use plan::{HeadKind, StrategyRow};
+use lamps::{ChosenHead, CurrentHead, RelayHead};
+use plan::{Base, HeadKind, Limits, StrategyRow};
 use sheet::Sheet;
 use std::fmt;
+use strategy::{Alinea, BaseStrategy, ChosenStrategy, HourlyPlan, Limiter};
 
 // What was read so far.
 #[derive(Debug, Drop)]
@@ -20,6 +23,42 @@ pub struct Opening {
     pub sheet: Sheet,
     pub strategy: StrategyRow,
     pub head: HeadKind,
+}
+
+// The base strategy that a plan asks for, before it is told anything.
+fn base_strategy(sheet: &Sheet, base: Base) -> BaseStrategy
+    ensures { IsFreshBase sheet.now base result }
+{
+    match base {
+        Base::Alinea => BaseStrategy::Alinea(Alinea::new(sheet)),
+        Base::Hourly(cycles) => BaseStrategy::Hourly(HourlyPlan::new(cycles)),
+    }
+}
+
+impl Opening {
+    /// The strategy that the plan asks for, as it is before the first period (docs/RULES.md, "Strategies").
+    pub fn new_strategy(&self) -> ChosenStrategy
+        ensures { IsAsked self.now.sheet self.now.strategy result }
+    {
+        let base = base_strategy(&self.sheet, self.strategy.base);
+        match self.strategy.limits {
+            Limits::Unlimited => ChosenStrategy::Unlimited(base),
+            Limits::Once(step) => ChosenStrategy::Once(Limiter::new(base, step)),
+            Limits::Twice { outer, inner } => {
+                ChosenStrategy::Twice(Limiter::new(Limiter::new(base, inner), outer))
+            }
+        }
+    }
+
+    /// The lamp head that the plan asks for, dark and not cut (docs/RULES.md, "Lamp heads").
+    pub fn new_head(&self) -> ChosenHead
+        ensures { result ≡ head_asked self.now.head }
+    {
+        match self.head {
+            HeadKind::Relay => ChosenHead::Relay(RelayHead::new()),
+            HeadKind::Current => ChosenHead::Current(CurrentHead::new()),
+        }
+    }
 }
 
 // The kinds of rows that stand once, before the first act.
