@@ -1,4 +1,4 @@
-// What a draft is held against: the limits of each figure, and the pairs of figures that go together.
+// What a draft is held against: the limits of each figure, and the figures that have to fit each other.
 ghost use Rattle.std.specs.Prelude.{◌≡◌, ◌<◌, length, position, IfSome};
 ghost use Rattle.std.specs.List.{zip};
 ghost use Rattle.sheet.specs.Limits.{is_outside};
@@ -6,8 +6,7 @@ ghost use Rattle.sheet.specs.Causes.{cause_of, cause_of_limits, cause_of_pairs, 
 
 use crate::draft::{Cause, Draft};
 
-// Each figure's lowest and highest value, in the order of their numbers: the one table of the code.
-// Pairs and no ranges: a RangeInclusive can't be copied, and holds beside its ends whether it has run out.
+// The lowest and the highest value of each figure, in the order of their numbers. Pairs, since ranges are not `Copy`.
 const LIMITS: [(u32, u32); 22] = [
     (1, 9_999),
     (30, 300),
@@ -40,7 +39,7 @@ fn is_outside(limits: (u32, u32), figure: u32) -> bool
     !(limits.0..=limits.1).contains(&figure)
 }
 
-// The place of the first figure outside its limits.
+// The place, counted from 0, of the first figure outside its limits, if there is one.
 fn place_outside(limits: &[(u32, u32)], figures: &[u32]) -> Option<usize>
     ensures value { result ≡ position (λ p. is_outside p.0 p.1) (zip limits.now figures.now) }
     ensures place { IfSome result (λ i. i < length limits.now) }
@@ -51,18 +50,17 @@ fn place_outside(limits: &[(u32, u32)], figures: &[u32]) -> Option<usize>
         .position(|(limits, figure)| is_outside(*limits, *figure))
 }
 
-// Refuses the lowest figure outside its limits. A place is below 22, so the cast loses nothing, and try_from would only add an error.
+// Refuses a draft with a figure outside its limits. A place is below 22, so the cast loses nothing.
 fn check_limits(draft: &Draft) -> Result<(), Cause>
     ensures { result ≡ checked (cause_of_limits draft.now) }
 {
-    // A match, since `ok_or` goes the other way: here a place found is the cause.
     match place_outside(&LIMITS, &draft.figures()) {
         Some(place) => Err(Cause::OutsideLimits(place as u32 + 1)),
         None => Ok(()),
     }
 }
 
-// Refuses figures that are at odds with each other.
+// Refuses a draft whose figures do not fit each other.
 fn check_pairs(draft: &Draft) -> Result<(), Cause>
     ensures { result ≡ checked (cause_of_pairs draft.now) }
 {
@@ -75,7 +73,7 @@ fn check_pairs(draft: &Draft) -> Result<(), Cause>
     }
 }
 
-// Refuses a draft that a cause is against.
+/// Refuses a draft with the first cause that applies.
 pub(crate) fn check(draft: &Draft) -> Result<(), Cause>
     ensures { result ≡ checked (cause_of draft.now) }
 {

@@ -1,12 +1,14 @@
-// An accepted sheet: what accepting found out of each figure stands in its type.
+// The accepted sheet, whose type carries the limits of its figures.
 ghost use Rattle.std.specs.Prelude.{◌<◌, ◌≤◌, ◌≡◌};
 ghost use Rattle.sheet.specs.Limits.{Within};
 
 use crate::draft::Draft;
 
-// An accepted sheet. Only `accept` makes one, and it can't be copied.
+/// An accepted sheet: each figure lies within its limits, TO2 < TO1, and qmin ≤ q0 ≤ qmax. Only `Draft::accept` makes
+/// one. It cannot be copied, and opening a station uses it up. (docs/RULES.md, "Accepting a sheet")
 #[derive(Debug, Drop)]
 pub struct Sheet {
+    /// The draft that was accepted.
     pub(crate) draft: Draft,
     ghost station_within: { Within 1 draft.«station» },
     ghost opening_flash_within: { Within 2 draft.opening_flash },
@@ -36,7 +38,7 @@ pub struct Sheet {
 }
 
 impl Sheet {
-    // The figures, as the accepted draft had them.
+    /// The figures of the accepted draft, to read.
     pub fn figures(&self) -> &Draft
         ensures { result.now ≡ self.now.draft }
     {
