@@ -6,9 +6,11 @@ ghost use Rattle.strategy.specs.Hourly.{hour_of};
 use crate::measure::Measure;
 use crate::strategy::Strategy;
 
-// Its state is the hour of the minute last told.
+/// A strategy with a cycle for each hour of the day. Its state is the hour of the minute last told, at first 0.
+/// Measures have no effect. (docs/RULES.md, "Hourly plan")
 #[derive(Debug, Drop)]
 pub struct HourlyPlan {
+    // seconds, hour 0 first
     cycles: [u32; 24],
     hour: u32,
     ghost cycles_within: { Cycles cycles },
@@ -22,14 +24,14 @@ fn hour_of(minute: u32) -> u32
     minute / 60 % 24
 }
 
-// A cycle drawn into 4 to 120.
+// A cycle drawn into 4 to 120 seconds.
 fn draw_cycle(cycle: u32) -> u32
     ensures { result ≡ drawn_cycle cycle }
 {
     cycle.clamp(4, 120)
 }
 
-// Each of the cycles drawn into 4 to 120.
+// Each of the cycles drawn into 4 to 120 seconds.
 fn draw_cycles(cycles: [u32; 24]) -> [u32; 24]
     ensures { result ≡ map drawn_cycle cycles }
 {
@@ -37,7 +39,7 @@ fn draw_cycles(cycles: [u32; 24]) -> [u32; 24]
 }
 
 impl HourlyPlan {
-    // The plan with these cycles, each drawn into 4 to 120, at hour 0.
+    /// The plan with these cycles in seconds, hour 0 first, each drawn into 4 to 120. It begins at hour 0.
     pub fn new(cycles: [u32; 24]) -> HourlyPlan
         ensures cycles { result.cycles ≡ map drawn_cycle cycles }
         ensures hour { result.hour ≡ 0 }
@@ -63,7 +65,6 @@ impl Strategy for HourlyPlan {
     }
 
     fn ask(&self) -> u32 {
-        // By a cast, since std has no From of a u32 for a usize.
         self.cycles[self.hour as usize]
     }
 }

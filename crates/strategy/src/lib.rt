@@ -1,4 +1,4 @@
-// Strategies: which reference cycle a station orders, from what its loops measured.
+// Strategies: which cycle a station has to follow, by what its loops measured or by the hour.
 #![tactic(auto)]
 
 mod alinea;
