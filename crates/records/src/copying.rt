@@ -1,20 +1,19 @@
-// Copying: from one list into another, and what a ring keeps, oldest first.
-// A ring's work is in functions over a lent slice and plain numbers, so that it also serves numbers that are kept
-// elsewhere than in a ring.
+// Copying a list, or what a ring keeps, into a list; also for places and numbers kept outside a `Ring`.
 ghost use Rattle.std.specs.Prelude.{◌≡◌, min, ◌++◌, if◌then◌else◌, nat_lt};
 ghost use Rattle.records.specs.Kept.{place_of, older, newer, kept};
 ghost use Rattle.records.specs.Copied.{copied_count, copied_into};
 
 use crate::putting::{place_of, room_of};
 
-// Where a copy into a list of this length begins: at the stated place, or at the end where that lies beyond it.
+// Where a copy into a list of this length begins: at the stated place, or at the end if the place lies beyond it.
 fn start_in(length: usize, from: usize) -> usize
     ensures { result ≡ min from length }
 {
     from.min(length)
 }
 
-// Copies a list over the front of another, as much of it as there is room for, and answers how many.
+/// Copies a list over the front of another, as much of it as there is room for, and returns how many elements it
+/// copied. The rest of the other list stays as it was.
 pub fn copy_front<T: Copy>(source: &[T], list: &mut [T]) -> usize
     ensures many { result ≡ copied_count source.now list.old 0 }
     ensures list { list.new ≡ copied_into source.now list.old 0 }
@@ -24,7 +23,7 @@ pub fn copy_front<T: Copy>(source: &[T], list: &mut [T]) -> usize
     many
 }
 
-// Copies two lists, the second behind the first, over the front of another.
+// Copies two lists, the second after the first, over the front of another, and returns how many elements it copied.
 fn copy_both<T: Copy>(first: &[T], second: &[T], list: &mut [T]) -> usize
     ensures many { result ≡ copied_count (first.now ++ second.now) list.old 0 }
     ensures list { list.new ≡ copied_into (first.now ++ second.now) list.old 0 }
@@ -33,11 +32,10 @@ fn copy_both<T: Copy>(first: &[T], second: &[T], list: &mut [T]) -> usize
     done + copy_front(second, &mut list[done..])
 }
 
-// The place of the oldest element in the older part of what is kept, which has none until each place has an element.
+// Where the older part of what is kept begins: at the end of the room until each place has an element.
 fn oldest_place(room: usize, next: usize, put: u32) -> usize
     ensures { result ≡ (if nat_lt put room then room else place_of room next put) }
 {
-    // By a cast, since std has no From of a u32 for a usize.
     if (put as usize) < room {
         room
     } else {
@@ -45,7 +43,7 @@ fn oldest_place(room: usize, next: usize, put: u32) -> usize
     }
 }
 
-// The older part of what is kept.
+// The older part of what is kept: once each place has an element, those from the next place on.
 fn older_part<T>(places: &[T], next: usize, put: u32) -> &[T]
     ensures { result.now ≡ older places.now next put }
 {
@@ -53,7 +51,7 @@ fn older_part<T>(places: &[T], next: usize, put: u32) -> &[T]
     &places[oldest_place(room, next, put)..room]
 }
 
-// The newer part of what is kept.
+// The newer part of what is kept: the elements before the next place.
 fn newer_part<T>(places: &[T], next: usize, put: u32) -> &[T]
     ensures { result.now ≡ newer places.now next put }
 {
@@ -61,7 +59,9 @@ fn newer_part<T>(places: &[T], next: usize, put: u32) -> &[T]
     &places[..place_of(room, next, put)]
 }
 
-// Copies what a ring keeps, oldest first, into a list from a place to the list's end, and answers how many.
+/// Copies what a ring keeps, the oldest first, into a list from a place on, up to the list's end at most, and returns
+/// how many elements it copied; 0 if `from` lies beyond the end. The rest of the list stays as it was. `next` and `put`
+/// are the ring's numbers, as `put_in` returns them. (docs/RULES.md, "Rings and copying")
 pub fn copy_kept<T: Copy>(places: &[T], next: usize, put: u32, list: &mut [T], from: usize) -> usize
     ensures many { result ≡ copied_count (kept places.now next put) list.old from }
     ensures list { list.new ≡ copied_into (kept places.now next put) list.old from }

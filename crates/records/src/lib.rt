@@ -1,4 +1,4 @@
-// Records of periods and alarms, and the ring that keeps the newest of them.
+// Records of periods and alarms, the phases, and the ring that keeps the newest records.
 #![tactic(auto)]
 
 mod alarm;

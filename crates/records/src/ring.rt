@@ -1,4 +1,4 @@
-// The ring: it keeps the newest elements, in places that it is lent, and counts all that were put.
+// The ring: it keeps the newest elements in places that the caller lends.
 ghost use Rattle.std.specs.Prelude.{◌≡◌, [], ◌∷◌, ◌++◌, length};
 ghost use Rattle.records.specs.Kept.{count_after, places_after, next_after, room_of, last_of};
 ghost use Rattle.records.specs.Copied.{copied_count, copied_into};
@@ -7,16 +7,20 @@ ghost use Rattle.records.specs.Rings.{kept_by, room_by};
 use crate::copying::copy_kept;
 use crate::putting::{kept_count, put_in};
 
-// The places, the number of the one to write next, and how many were put in all.
+/// A ring for any kind of element. It keeps the newest, as many as there are places, and counts all that were put.
+/// (docs/RULES.md, "Rings and copying")
 #[derive(Drop)]
 pub struct Ring<'a, T> {
     places: &'a mut [T],
+    // the place to write next
     next: usize,
+    // how many were put in all
     put: u32,
 }
 
 impl<'a, T: Copy> Ring<'a, T> {
-    // A ring over these places, to which nothing was put yet. Of more than 4,294,967,295 places it uses the first so many.
+    /// A ring over these places, with nothing put yet. Without places it only counts. Of more than 4,294,967,295 places
+    /// it uses the first so many.
     pub fn new(places: &'a mut [T]) -> Ring<'a, T>
         ensures kept { kept_by result ≡ [] }
         ensures room { room_by result ≡ room_of places.old }
@@ -32,7 +36,7 @@ impl<'a, T: Copy> Ring<'a, T> {
         }
     }
 
-    // Puts an element: the ring keeps the last so many of what it kept and the new one.
+    /// Puts an element. Once each place has one, the oldest is dropped for it.
     pub fn put(&mut self, x: T)
         ensures kept { kept_by self.new ≡ last_of (room_by self.old) (kept_by self.old ++ (x ∷ [])) }
         ensures room { room_by self.new ≡ room_by self.old }
@@ -44,21 +48,22 @@ impl<'a, T: Copy> Ring<'a, T> {
         (self.next, self.put) = put_in(self.places, self.next, self.put, x);
     }
 
-    // How many were put in all; the count stops at 4,294,967,295.
+    /// How many were put in all; the count stops at 4,294,967,295.
     pub fn count(&self) -> u32
         ensures { result ≡ self.now.put }
     {
         self.put
     }
 
-    // How many are kept.
+    /// How many elements are kept.
     pub fn len(&self) -> usize
         ensures { result ≡ length (kept_by self.now) }
     {
         kept_count(self.places.len(), self.put)
     }
 
-    // Copies what is kept, oldest first, into a list from a place to the list's end, and answers how many.
+    /// Copies what is kept, the oldest first, into a list from a place on, up to the list's end at most, and returns
+    /// how many elements it copied; 0 if `from` lies beyond the end. The rest of the list stays as it was.
     pub fn copy_to(&self, list: &mut [T], from: usize) -> usize
         ensures many { result ≡ copied_count (kept_by self.now) list.old from }
         ensures list { list.new ≡ copied_into (kept_by self.now) list.old from }
