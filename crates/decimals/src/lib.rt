@@ -4,7 +4,8 @@
 ghost use Rattle.std.specs.Prelude.{◌≡◌};
 ghost use Rattle.decimals.specs.Digits.{saturated};
 
-// The number that the text writes, if its bytes are decimal digits; a number past 64 bits is read as the largest of 64 bits.
+/// The number that a text writes, or none if one of its bytes is no decimal digit. Leading zeros are allowed, an empty
+/// text gives 0, and a number past 64 bits gives the largest of 64 bits.
 pub fn read_decimal(text: &[u8]) -> Option<u64>
     ensures { result ≡ saturated text.now }
 {
