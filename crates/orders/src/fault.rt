@@ -1,25 +1,27 @@
-// What can be wrong with a command line, and how it is told.
+// The faults of a command line, and the refusals by which they are told.
 ghost use Rattle.std.specs.Prelude.{◌≡◌};
 ghost use Rattle.orders.specs.declared.fault.OrderFault.TheVariants.{Reader};
 ghost use Rattle.orders.specs.Faults.{refusal_of};
 
-// A line that the reader cannot cut into tokens.
+/// Why a line is refused before its tokens are read. (docs/RULES.md, "Refusals")
 #[derive(Clone, Copy, Debug, PartialEq, Eq)]
 pub enum ReaderFault {
-    // the line is empty or has more than 80 bytes: its length
+    /// The line is empty or has more than 80 bytes: its length. Refusal 4.
     Length(usize),
-    // a byte of no token and no space: the place of the first
+    /// A byte that is neither of a token nor a space: the place, counted from 0, of the first. Refusal 5.
     Byte(usize),
 }
 
-// A line that gives no order.
+/// Why a line gives no order. Of several faults the one with the lowest refusal number is given.
+/// (docs/RULES.md, "Refusals")
 #[derive(Clone, Copy, Debug, PartialEq, Eq)]
 pub enum OrderFault {
-    // the reader's fault
+    /// The line has a wrong length or a wrong byte. Refusal 4 or 5.
     Reader(ReaderFault),
-    // a token that no line has after those before it: its place, or the length of a line that stops early
+    /// A token that no line has after the tokens before it: its place, counted from 0, or the length of the line if it
+    /// stops too early. Refusal 6.
     Token(usize),
-    // a cycle outside 4 to 120: the place of its digits
+    /// A cycle outside 4 to 120 seconds: the place, counted from 0, of its digits. Refusal 7.
     Cycle(usize),
 }
 
@@ -31,16 +33,17 @@ impl From<ReaderFault> for OrderFault {
     }
 }
 
-// A refusal as it is told: its number, and the length or place that goes with it, if any does. A draft's refusal is another
-// type: it always names a figure, and neither crate stands on the other.
+/// The refusal of a command line or of a breaker reset, in the numbers of the rule book. (docs/RULES.md, "Refusals")
 #[derive(Clone, Copy, Debug, PartialEq, Eq)]
 pub struct Refusal {
+    /// Number of the refusal, 4 to 11.
     pub number: u32,
+    /// The length of the line, a place in it, or the bytes needed, by the number; none for 8 to 10.
     pub value: Option<usize>,
 }
 
 impl OrderFault {
-    // The refusal that this fault is told by.
+    /// Refusal 4 to 7, always with a value: the length or the place of the fault.
     pub fn refusal(self) -> Refusal
         ensures { result ≡ refusal_of self }
     {

@@ -9,14 +9,14 @@ use crate::order::{Order, cycle_order, mode_order};
 use crate::tokens::Tokens;
 use decimals::read_decimal;
 
-// Reads the tokens of a whole line.
+/// The order of a line, read by its tokens alone: length and bytes are not checked here.
 pub(crate) fn read_line(line: &[u8]) -> Result<Order, OrderFault>
     ensures { result ≡ line_order line.now }
 {
     read_form(&mut Tokens::of(line))
 }
 
-// Reads a line from here to its end.
+// Reads a line from its first token to its end.
 fn read_form(tokens: &mut Tokens) -> Result<Order, OrderFault>
     ensures { Reads result lines tokens.old }
 {
@@ -55,7 +55,6 @@ fn read_mode(tokens: &mut Tokens) -> Result<Order, OrderFault>
     ensures { Reads result (lines_past "PA, AM=PIL") tokens.old }
 {
     let digit = tokens.token_behind(b", AF=PF/")?;
-    // A match and no `?`, so that each reader has one shape: what goes on, and what no line has here.
     match mode_order(digit.text()) {
         Some(order) => tokens.finish(Ok(order)),
         None => Err(digit.stray()),
@@ -67,7 +66,6 @@ fn read_cycle(tokens: &mut Tokens) -> Result<Order, OrderFault>
     ensures { Reads result (lines_past "PA, AM=F.1") tokens.old }
 {
     let digits = tokens.token_behind(b", CY=")?;
-    // A match and no `?`, so that each reader has one shape: what goes on, and what no line has here.
     match read_decimal(digits.text()) {
         Some(seconds) => tokens.finish(cycle_order(seconds, digits.place())),
         None => Err(digits.stray()),

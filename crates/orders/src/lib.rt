@@ -1,4 +1,4 @@
-// Command lines: the tokens of a line, and the order that it gives or why it is refused.
+// Command lines: the order that a line gives, or the fault for which it is refused.
 #![tactic(auto)]
 
 mod fault;

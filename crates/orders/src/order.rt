@@ -1,28 +1,28 @@
-// Orders, and the tokens that tell one from another.
+// Orders, and the tokens that carry a mode or a cycle.
 ghost use Rattle.std.specs.Prelude.{◌≡◌, ◌&&◌, nat_le};
 ghost use Rattle.orders.specs.Lines.{cycle_order};
 ghost use Rattle.orders.specs.Reading.{mode_order};
 
 use crate::fault::OrderFault;
 
-// What a command line asks for.
+/// What a command line asks for. (docs/RULES.md, "Command lines")
 #[derive(Clone, Copy, Debug, PartialEq, Eq)]
 pub enum Order {
-    // central mode
+    /// Central mode, line 1.
     Central,
-    // local mode, without a centre's cycle
+    /// Local mode, which clears the centre's cycle, line 2.
     Local,
-    // this centre's cycle, in seconds, and wanted
+    /// The centre's cycle in seconds, 4 to 120, and metering wanted, line 3.
     Cycle(u32),
-    // not wanted
+    /// Metering not wanted, line 4.
     Off,
-    // the letter of the state
+    /// The status reading that is answered by one letter, line 5.
     Status,
-    // the running cycle
+    /// The status reading that is answered by the running reference cycle and JC, line 6.
     Cycles,
 }
 
-// The order of a mode digit, if the text is one.
+/// The order of a mode digit, if the text is one: `0` central, `1` local.
 pub(crate) fn mode_order(text: &[u8]) -> Option<Order>
     ensures { result ≡ mode_order text.now }
 {
@@ -36,14 +36,14 @@ pub(crate) fn mode_order(text: &[u8]) -> Option<Order>
     }
 }
 
-// Is it a cycle that the centre may set?
+// Whether the centre may set a cycle of so many seconds.
 fn is_cycle(seconds: u32) -> bool
     ensures { result ≡ (nat_le 4 seconds && nat_le seconds 120) }
 {
     (4..=120).contains(&seconds)
 }
 
-// The order of a cycle of so many seconds, whose digits stand at this place.
+/// The order of a cycle of so many seconds, or the fault with the place of its digits if it is outside 4 to 120.
 pub(crate) fn cycle_order(seconds: u64, place: usize) -> Result<Order, OrderFault>
     ensures { result ≡ cycle_order seconds place }
 {

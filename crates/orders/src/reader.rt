@@ -9,14 +9,14 @@ use crate::form::read_line;
 use crate::order::Order;
 use crate::token::is_known;
 
-// May a line have so many bytes?
+// Whether a line may have so many bytes.
 fn is_length(bytes: usize) -> bool
     ensures { result ≡ (nat_le 1 bytes && nat_le bytes 80) }
 {
     (1..=80).contains(&bytes)
 }
 
-// Has the line a length that a line may have?
+// Refuses a line that is empty or too long.
 fn check_length(line: &[u8]) -> Result<(), ReaderFault>
     ensures { result ≡ length_check line.now }
 {
@@ -27,25 +27,25 @@ fn check_length(line: &[u8]) -> Result<(), ReaderFault>
     }
 }
 
-// The place of the first byte that no line may have, if there is one.
+// The place, counted from 0, of the first byte that no line may have, if there is one.
 fn first_unknown(line: &[u8]) -> Option<usize>
     ensures { result ≡ position (λ byte. not (known byte)) line.now }
 {
     line.iter().position(|byte| !is_known(*byte))
 }
 
-// Has the line only bytes that a line may have?
+// Refuses a line with a byte that no line may have.
 fn check_bytes(line: &[u8]) -> Result<(), ReaderFault>
     ensures { result ≡ byte_check line.now }
 {
-    // A match, since `ok_or` goes the other way: here a place found is the fault.
     match first_unknown(line) {
         Some(place) => Err(ReaderFault::Byte(place)),
         None => Ok(()),
     }
 }
 
-// The order that a command line gives, or its first fault.
+/// The order that a command line gives, or its fault. Each kind of fault is looked for in the whole line before the
+/// next: length, bytes, tokens, then the cycle's limits. (docs/RULES.md, "Refusals")
 pub fn read_order(line: &[u8]) -> Result<Order, OrderFault>
     ensures { result ≡ order_of line.now }
 {
@@ -54,7 +54,7 @@ pub fn read_order(line: &[u8]) -> Result<Order, OrderFault>
     read_line(line)
 }
 
-// The laws of command lines hold.
+/// Does nothing when called. Its contract gives the laws of `read_order`, for every line, in the words of the lines.
 pub fn laws_hold()
     ensures { Laws }
 {}

@@ -1,4 +1,4 @@
-// The tokens of a line: words and marks, each a part of the line with its place.
+// The tokens of a line, and the bytes that they are made of.
 ghost use Rattle.std.specs.Prelude.{◌≡◌, ◌+◌, ◌<◌, ◌≤◌, true, length, drop, position, slice_index};
 ghost use Rattle.std.specs.List.{prefix_len};
 ghost use Rattle.orders.specs.declared.fault.OrderFault.TheVariants.{Token as NoSuchToken};
@@ -7,17 +7,22 @@ ghost use Rattle.orders.specs.Reading.{text_of, place_of, FirstAt};
 
 use crate::fault::OrderFault;
 
-// A token is a part of the line, and keeps its place in it.
+/// A part of a line: a word or one of three signs, with the place of its first byte in the line, counted from 0.
+/// (docs/RULES.md, "Command lines")
 #[derive(Clone, Copy)]
 pub enum Token<'a> {
+    /// A run of capitals, digits and dots, as long as it can be.
     Word { text: &'a [u8], place: usize },
+    /// The sign `,`.
     Comma { place: usize },
+    /// The sign `=`.
     Equals { place: usize },
+    /// The sign `/`.
     Slash { place: usize },
 }
 
 impl<'a> Token<'a> {
-    // The bytes of the token.
+    /// The bytes of the token.
     pub(crate) fn text(&self) -> &'a [u8]
         ensures { result.now ≡ text_of self.now }
     {
@@ -29,7 +34,7 @@ impl<'a> Token<'a> {
         }
     }
 
-    // The place of its first byte in the line, counted from 0.
+    /// The place of its first byte in the line, counted from 0.
     pub(crate) fn place(&self) -> usize
         ensures { result ≡ place_of self.now }
     {
@@ -41,7 +46,7 @@ impl<'a> Token<'a> {
         }
     }
 
-    // The fault of a token that no line has here.
+    /// The fault if no line has this token here.
     pub(crate) fn stray(&self) -> OrderFault
         ensures { result ≡ NoSuchToken (place_of self.now) }
     {
@@ -49,35 +54,35 @@ impl<'a> Token<'a> {
     }
 }
 
-// Is the byte of a word?
+// Whether a byte may stand in a word.
 fn is_word(byte: u8) -> bool
     ensures { result ≡ in_word byte }
 {
     matches!(byte, b'A'..=b'Z' | b'0'..=b'9' | b'.')
 }
 
-// Is the byte a token of its own?
+// Whether a byte is a sign, which is a token of its own.
 fn is_mark(byte: u8) -> bool
     ensures { result ≡ is_mark byte }
 {
     matches!(byte, b',' | b'=' | b'/')
 }
 
-// Is the byte of a token?
+// Whether a byte is one of a token.
 fn in_token(byte: u8) -> bool
     ensures { result ≡ in_token byte }
 {
     is_mark(byte) || is_word(byte)
 }
 
-// Is it a byte that a line may have: one of a token, or a space?
+/// Whether a line may have this byte: one of a token, or a space.
 pub(crate) fn is_known(byte: u8) -> bool
     ensures { result ≡ known byte }
 {
     in_token(byte) || byte == b' '
 }
 
-// How many bytes stand before the next token, from this place on, if there is one.
+/// How many bytes from this place on stand before the next token; none if no token follows.
 pub(crate) fn bytes_before(line: &[u8], from: usize) -> Option<usize>
     ensures { result ≡ position in_token (drop from line.now) }
 {
@@ -91,7 +96,7 @@ fn word_length(text: &[u8]) -> usize
     text.iter().take_while(|byte| is_word(**byte)).count()
 }
 
-// The token that begins at this place.
+/// The token that begins at this place; a word is taken as long as it can be.
 pub(crate) fn token_at<'a>(line: &'a [u8], place: usize) -> Token<'a>
     requires within { place < length line.now }
     requires begins { in_token (slice_index line.now place) ≡ true }

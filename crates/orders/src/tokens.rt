@@ -7,15 +7,16 @@ use crate::fault::OrderFault;
 use crate::order::Order;
 use crate::token::{Token, bytes_before, token_at};
 
-// What is left to read of a line.
+/// What is left to read of a line, or of a phrase that a line is held against.
 #[derive(Drop)]
 pub(crate) struct Tokens<'a> {
     line: &'a [u8],
+    // where reading goes on
     place: usize,
 }
 
 impl<'a> Tokens<'a> {
-    // The tokens of a line, from the first on.
+    /// The tokens of a line, from the first on.
     pub(crate) fn of(line: &'a [u8]) -> Tokens<'a>
         ensures left { left result ≡ tokens_of line.now }
         ensures length { whole_length result ≡ length line.now }
@@ -23,7 +24,7 @@ impl<'a> Tokens<'a> {
         Tokens { line, place: 0 }
     }
 
-    // The next token, if one is left.
+    /// Reads the next token, if one is left.
     pub(crate) fn next_token(&mut self) -> Option<Token<'a>>
         ensures { Stepped result self.old self.new }
     {
@@ -34,14 +35,14 @@ impl<'a> Tokens<'a> {
         Some(token)
     }
 
-    // The next token, where the line has to go on.
+    /// Reads the next token; it is a fault if the line ends here.
     pub(crate) fn required(&mut self) -> Result<Token<'a>, OrderFault>
         ensures { Required result self.old self.new }
     {
         self.next_token().ok_or(OrderFault::Token(self.line.len()))
     }
 
-    // Reads one token, which has to have this text.
+    // Reads one token; it is a fault if its text is another than this.
     fn expect(&mut self, text: &[u8]) -> Result<(), OrderFault>
         ensures { Expected result text.now self.old self.new }
     {
@@ -53,7 +54,7 @@ impl<'a> Tokens<'a> {
         }
     }
 
-    // Reads the tokens of a phrase, one after the other.
+    /// Reads the tokens of a phrase, one after the other; it is a fault if the line has others.
     pub(crate) fn phrase(&mut self, words: &[u8]) -> Result<(), OrderFault>
         ensures { Phrased result words.now self.old self.new }
     {
@@ -64,7 +65,7 @@ impl<'a> Tokens<'a> {
         Ok(())
     }
 
-    // Reads a phrase, and then the token behind it.
+    /// Reads a phrase, and then the token after it.
     pub(crate) fn token_behind(&mut self, words: &[u8]) -> Result<Token<'a>, OrderFault>
         ensures { BehindPhrase result words.now self.old self.new }
     {
@@ -72,7 +73,7 @@ impl<'a> Tokens<'a> {
         self.required()
     }
 
-    // What the line gives if it ends here; a token more is a fault, and is told first.
+    /// What the line gives if it ends here. A further token is a fault, which comes before a fault that was given.
     pub(crate) fn finish(&mut self, given: Result<Order, OrderFault>) -> Result<Order, OrderFault>
         ensures { result ≡ finished (left self.old) given }
     {
