@@ -1,4 +1,4 @@
-// What the status readings of a station write into the answer buffer that a caller lends.
+// The replies to the status readings, written into the caller's buffer, and digits for displays and forms.
 #![tactic(auto)]
 
 mod digits;

@@ -6,25 +6,27 @@ ghost use Rattle.reply.specs.Replies.{status_text, cycles_text, fitted, written}
 use itoa::Buffer;
 use std::fmt::InlineText;
 
-// What stands before the running cycle.
+// What stands before the length of the running reference cycle.
 const CYCLE_NAME: &str = "AM=F.1 CY=";
 
-// What stands before the window's flash.
+// What stands before the window flash.
 const WINDOW_FLASH_NAME: &str = " JC=";
 
 // The most bytes of a name or a figure.
 const LONGEST: usize = 10;
 
-// Room for four of them, and one byte more, so that none is cut.
+// Room for two names and two figures, and one byte more, since a text that may fill all bytes may be cut.
 const ROOM: usize = 4 * LONGEST + 1;
 
-// A buffer is too short for a reply, which needs so many bytes.
+/// A buffer is too short for a reply, and nothing was written: refusal 11. (docs/RULES.md, "Refusals")
 #[derive(Clone, Copy, Debug, PartialEq, Eq)]
 pub struct NoRoom {
+    /// Bytes that the reply needs.
     pub needed: usize,
 }
 
-// Writes a reply at the buffer's front: the number of its bytes, or, with nothing written, those needed.
+// Writes a reply to the front of the buffer, and returns the number of its bytes, or the number needed if it does not
+// fit; nothing is written then.
 fn write_reply(text: &[u8], buffer: &mut [u8]) -> Result<usize, NoRoom>
     ensures result { result ≡ fitted (length buffer.old) text.now }
     ensures bytes { buffer.new ≡ written text.now buffer.old }
@@ -37,7 +39,8 @@ fn write_reply(text: &[u8], buffer: &mut [u8]) -> Result<usize, NoRoom>
     Ok(needed)
 }
 
-// The letter of the state, as a reply: the number of its bytes, or, with nothing written, those needed.
+/// Writes the answer to line `P`, this one letter, to the front of the buffer, and returns the number of bytes written,
+/// or `NoRoom` if the buffer is empty. No byte beyond the answer alters. (docs/RULES.md, "Command lines")
 pub fn status_reply(letter: u8, buffer: &mut [u8]) -> Result<usize, NoRoom>
     ensures result { result ≡ fitted (length buffer.old) (status_text letter) }
     ensures bytes { buffer.new ≡ written (status_text letter) buffer.old }
@@ -46,7 +49,7 @@ pub fn status_reply(letter: u8, buffer: &mut [u8]) -> Result<usize, NoRoom>
     write_reply(&[letter], buffer)
 }
 
-// A text with a name or a figure behind it.
+// The text with a name or a figure after it.
 fn with_part(text: InlineText<{ ROOM }>, part: &str) -> InlineText<{ ROOM }>
     requires short { length part.now ≤ 10 }
     requires room { length (inline_text text) ≤ 30 }
@@ -55,7 +58,7 @@ fn with_part(text: InlineText<{ ROOM }>, part: &str) -> InlineText<{ ROOM }>
     text.and_str(part, LONGEST)
 }
 
-// The running cycle and the window's flash, as a text, put together by parts, since a `write!` has an error to answer.
+// The answer to line `PE` as a text. Its parts are appended, since `write!` would return an error that cannot come.
 fn cycles_text(cycle: u32, window_flash: u32) -> InlineText<{ ROOM }>
     ensures text { inline_text result ≡ cycles_text cycle window_flash }
     ensures few { length (inline_text result) ≤ 34 }
@@ -66,8 +69,9 @@ fn cycles_text(cycle: u32, window_flash: u32) -> InlineText<{ ROOM }>
     with_part(text, Buffer::new().format(window_flash))
 }
 
-// The running cycle and the window's flash, as a reply, as in `AM=F.1 CY=60 JC=4`: the number of its bytes, or, with
-// nothing written, those needed.
+/// Writes the answer to line `PE`, as in `AM=F.1 CY=60 JC=4`, to the front of the buffer, and returns the number of
+/// bytes written, at most 34, or `NoRoom` if the answer does not fit. `cycle` is the length of the running reference
+/// cycle in seconds, 0 outside metering; `window_flash` is JC in seconds. (docs/RULES.md, "Command lines")
 pub fn cycles_reply(cycle: u32, window_flash: u32, buffer: &mut [u8]) -> Result<usize, NoRoom>
     ensures result { result ≡ fitted (length buffer.old) (cycles_text cycle window_flash) }
     ensures bytes { buffer.new ≡ written (cycles_text cycle window_flash) buffer.old }
