@@ -1,4 +1,4 @@
-// A plan replayed: what has to come before its acts, and a station that is driven through them.
+// Replays a plan: collects the rows that open its station, and drives the station through its acts.
 #![tactic(auto)]
 
 mod act;

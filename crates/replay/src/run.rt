@@ -1,4 +1,4 @@
-// A run of a plan: a station that is driven through acts, and an observer of what it does.
+// A run of a plan: a station that is driven through acts, and an observer that counts what it does.
 ghost use Rattle.std.specs.Prelude.{◌≡◌, length, take, slice_get, ℕ, min, [], drop};
 ghost use Rattle.records.specs.Rings.{kept_by};
 ghost use Rattle.control.specs.Lines.{buffer_after};
@@ -21,15 +21,14 @@ use sheet::Sheet;
 use station::{Field, Station, View};
 use strategy::Strategy;
 
-// A station with an observer beside it.
+/// A station that is driven through acts, and an observer beside it that keeps the totals of the run.
 #[derive(Drop)]
 pub struct Run<S, H> {
     station: Station<S, H>,
     observer: Observer,
 }
 
-// What stands in a place to which no period record was put. No Default gives it, nor the alarm record below: a lamp and a
-// code have none that means nothing.
+// Fills a ring's place before a period record is put there.
 const NO_PERIOD: PeriodRecord = PeriodRecord {
     number: 0,
     minute: 0,
@@ -38,7 +37,7 @@ const NO_PERIOD: PeriodRecord = PeriodRecord {
     openings: 0,
 };
 
-// What stands in a place to which no alarm record was put.
+// Fills a ring's place before an alarm record is put there.
 const NO_ALARM: AlarmRecord = AlarmRecord {
     second: 0,
     code: TripCode::NotLit,
@@ -46,7 +45,7 @@ const NO_ALARM: AlarmRecord = AlarmRecord {
     phase: Phase::Standby,
 };
 
-// The lamp word that a plan gives.
+// The lamp word that the station is given: the plan's number, or one that stands for the ordered colour's lamps.
 fn word_given<S, H: LampWords>(station: &Station<S, H>, word: Word) -> u32
     ensures { WordGiven H.LampHead station.now.head word result }
 {
@@ -56,7 +55,7 @@ fn word_given<S, H: LampWords>(station: &Station<S, H>, word: Word) -> u32
     }
 }
 
-// The oldest that a ring keeps, if it keeps any, by way of a list of at least one place.
+// The oldest element that a ring keeps, if any. `list` is scratch space and needs at least one place.
 fn oldest<T: Copy>(ring: &Ring<'_, T>, list: &mut [T]) -> Option<T>
     ensures { result ≡ slice_get (take (length list.old) (kept_by ring.now)) 0 }
 {
@@ -64,7 +63,8 @@ fn oldest<T: Copy>(ring: &Ring<'_, T>, list: &mut [T]) -> Option<T>
     list[..kept].first().copied()
 }
 
-// A second, with rings of one place each, so that what it puts is all that they keep.
+/// Plays a second, and returns its answer with the records that it put. The rings have one place each, since a second
+/// puts at most one record of a kind.
 pub(crate) fn do_second<S: Strategy, H: LampWords>(
     station: &mut Station<S, H>,
     second: SecondAct<'_>,
@@ -97,7 +97,7 @@ pub(crate) fn do_second<S: Strategy, H: LampWords>(
     }
 }
 
-// A command line with its answer buffer.
+// Gives the station a command line with its answer buffer, and copies the reply.
 fn say<S: Strategy, H: LampHead>(
     station: &mut Station<S, H>,
     text: &[u8],
@@ -110,19 +110,20 @@ fn say<S: Strategy, H: LampHead>(
     Ok(Reply::of(buffer, bytes))
 }
 
-// A command line of a plan.
+/// Plays a command line, with an answer buffer of as many bytes as the plan asks for, at most 1,000.
 pub(crate) fn do_line<S: Strategy, H: LampHead>(
     station: &mut Station<S, H>,
     line: LineAct<'_>,
 ) -> Result<Reply, Refused>
-    ensures { LinePlayed S.Strategy H.LampHead station.old line.entry.text.now (buffer_for line.entry) station.new (buffer_after (replied_in result) (buffer_for line.entry)) result }
+    ensures { LinePlayed S.Strategy H.LampHead station.old line.entry.text.now (buffer_for line.entry)
+        station.new (buffer_after (replied_in result) (buffer_for line.entry)) result }
 {
     let mut buffer = [0; 1_000];
     let room = line.room.min(1_000);
     say(station, line.text, &mut buffer[..room])
 }
 
-// The observer after an act that can be refused.
+// The observer after a command line or a breaker reset, which counts one refusal more unless the act was taken.
 fn counted_unless(taken: bool, observer: Observer) -> Observer
     ensures { (rs : Log) (k : ℕ) → observer ≡ observer_of rs k → result ≡ observer_of rs (unless_taken taken k) }
 {
@@ -134,7 +135,8 @@ fn counted_unless(taken: bool, observer: Observer) -> Observer
 }
 
 impl<S: Strategy, H: LampWords> Run<S, H> {
-    // A run that has not begun, of a station that is opened on this sheet.
+    /// A run that has not begun: its station is fresh, and the totals are 0. The sheet is used up
+    /// (docs/RULES.md, "Accepting a sheet").
     pub fn open(sheet: Sheet, strategy: S, head: H) -> Run<S, H>
         ensures sheet { result.station.sheet ≡ sheet }
         ensures begun { RanThrough S.Strategy H.LampHead result strategy [] }
@@ -145,7 +147,7 @@ impl<S: Strategy, H: LampWords> Run<S, H> {
         }
     }
 
-    // A second.
+    // Plays a second.
     fn second(&mut self, second: SecondAct<'_>) -> Answered
         ensures { ActPlayed S.Strategy H.LampHead self.old (SecondOf second.entry) result self.new }
     {
@@ -163,7 +165,7 @@ impl<S: Strategy, H: LampWords> Run<S, H> {
         }
     }
 
-    // A command line.
+    // Plays a command line.
     fn line(&mut self, line: LineAct<'_>) -> Answered
         ensures { ActPlayed S.Strategy H.LampHead self.old (LineOf line.entry) result self.new }
     {
@@ -176,7 +178,7 @@ impl<S: Strategy, H: LampWords> Run<S, H> {
         }
     }
 
-    // A breaker reset.
+    // Plays a breaker reset.
     fn reset(&mut self) -> Answered
         ensures { ActPlayed S.Strategy H.LampHead self.old ResetOf result self.new }
     {
@@ -188,7 +190,9 @@ impl<S: Strategy, H: LampWords> Run<S, H> {
             view,
         }
     }
-    // One act, with its answer.
+
+    /// Plays one act. A refused act leaves the station as it was and adds 1 to the refusals of the totals
+    /// (docs/RULES.md, "Refusals").
     pub fn act(&mut self, act: Act<'_>) -> Answered
         ensures { ActPlayed S.Strategy H.LampHead self.old act.entry result self.new }
     {
@@ -199,33 +203,42 @@ impl<S: Strategy, H: LampWords> Run<S, H> {
         }
     }
 
-    // Plays acts in their order, as many as there are places for their answers, and says how many. Every history that the run went through goes on by
-    // exactly these acts with these answers.
+    /// Plays acts in their order until the acts or the places for answers run out, and returns how many it played.
+    /// Each answer stands in the place of its act.
     pub fn play(&mut self, acts: &[Act<'_>], answers: &mut [Answered]) -> usize
         ensures count { result ≡ min (length acts.now) (length answers.old) }
         ensures rest { drop result answers.new ≡ drop result answers.old }
-        ensures played { Played S.Strategy H.LampHead self.old (take result acts.now) (take result answers.new) self.new }
-        ensures goes_on { (s : S) (h : History) → RanThrough S.Strategy H.LampHead self.old s h → RanThrough S.Strategy H.LampHead self.new s (extended (take result acts.now) (take result answers.new) h) }
+        ensures played { Played S.Strategy H.LampHead self.old
+            (take result acts.now) (take result answers.new) self.new }
+        ensures goes_on { (s : S) (h : History) →
+            RanThrough S.Strategy H.LampHead self.old s h →
+            RanThrough S.Strategy H.LampHead self.new s
+            (extended (take result acts.now) (take result answers.new) h) }
     {
         let count = acts.len().min(answers.len());
-        // By index: of what is written through a `zip` over `iter_mut` nothing is known after the loop.
+        // By index, since the prover knows nothing of what is written through `zip` over `iter_mut`.
         for i in 0..count {
             answers[i] = self.act(acts[i]);
         }
         count
     }
 
-    // What is seen of the station, with the run law of every history that the run went through.
+    /// What an observer sees of the station now. Every history that the run went through keeps the promises
+    /// (docs/RULES.md, "Promises").
     pub fn look(&self) -> View
         ensures view { result ≡ view_of H.LampHead self.now.station }
-        ensures looked { (s : S) (h : History) → RanThrough S.Strategy H.LampHead self.now s h → Looked S.Strategy H.LampHead self.now.station result s h }
+        ensures looked { (s : S) (h : History) →
+            RanThrough S.Strategy H.LampHead self.now s h →
+            Looked S.Strategy H.LampHead self.now.station result s h }
     {
         self.station.look()
     }
 
-    // The totals of the run so far: those of the log of every history that it went through.
+    /// The totals of the run so far, as the closing row of its log has them (docs/TRIAL.md, "The log").
     pub fn totals(&self) -> Totals
-        ensures { (s : S) (h : History) → RanThrough S.Strategy H.LampHead self.now s h → result ≡ totals_of (log self.now.station.sheet S.Strategy s h) (refusals_in h) }
+        ensures { (s : S) (h : History) →
+            RanThrough S.Strategy H.LampHead self.now s h →
+            result ≡ totals_of (log self.now.station.sheet S.Strategy s h) (refusals_in h) }
     {
         self.observer.totals()
     }

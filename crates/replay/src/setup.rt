@@ -9,7 +9,7 @@ use sheet::Sheet;
 use std::fmt;
 use strategy::{Alinea, BaseStrategy, ChosenStrategy, HourlyPlan, Limiter};
 
-// What was read so far.
+/// The rows read so far of those that a plan has once, before its first act (docs/TRIAL.md, "Order of rows").
 #[derive(Debug, Drop)]
 pub struct Setup {
     sheet: Option<Sheet>,
@@ -17,11 +17,14 @@ pub struct Setup {
     head: Option<HeadKind>,
 }
 
-// All that a station is opened with.
+/// Everything that the station of a plan is opened with.
 #[derive(Debug, Drop)]
 pub struct Opening {
+    /// The accepted sheet; opening a station uses it up.
     pub sheet: Sheet,
+    /// Which strategy to make, and the step limiters over it.
     pub strategy: StrategyRow,
+    /// Which lamp head to make.
     pub head: HeadKind,
 }
 
@@ -61,23 +64,27 @@ impl Opening {
     }
 }
 
-// The kinds of rows that stand once, before the first act.
+/// The kinds of rows that stand once, before the first act.
 #[derive(Clone, Copy, Debug, PartialEq, Eq)]
 pub enum Slot {
+    /// The row of the 22 figures.
     Sheet,
+    /// The row of the strategy.
     Strategy,
+    /// The row of the lamp head.
     Head,
 }
 
-// A row that stands in a wrong place.
+/// What is wrong with a row that stands in a wrong place (docs/TRIAL.md, "Malformed rows").
 #[derive(Clone, Copy, Debug, PartialEq, Eq)]
 pub enum Misplaced {
-    // one of this kind stands before it
+    /// The row is of this kind, and the plan has had one.
     Again(Slot),
-    // an act, and none of this kind stands before it
+    /// The row is an act, and no row of this kind stands before it.
     Lacking(Slot),
 }
 
+// Writes the word that rows of this kind begin with.
 impl fmt::Display for Slot {
     ghost output = { λ x. Some (slot_text x) };
 
@@ -90,6 +97,7 @@ impl fmt::Display for Slot {
     }
 }
 
+// Writes what is wrong with the row, and what was expected.
 impl fmt::Display for Misplaced {
     ghost output = { λ x. Some (misplaced_text x) };
 
@@ -108,7 +116,7 @@ impl fmt::Display for Misplaced {
 }
 
 impl Setup {
-    // Nothing read yet.
+    /// The setup of a plan of which nothing is read yet.
     pub fn new() -> Setup
         ensures { result ≡ record { sheet = None; strategy = None; head = None } }
     {
@@ -119,7 +127,8 @@ impl Setup {
         }
     }
 
-    // Refuses a row of a kind that was read before.
+    /// An error if a row of this kind was read before. Call it before the row is kept: `set_sheet`, `set_strategy` and
+    /// `set_head` replace what they find.
     pub fn expect(&self, slot: Slot) -> Result<(), Misplaced>
         ensures { result ≡ once_in self.now slot }
     {
@@ -135,28 +144,29 @@ impl Setup {
         }
     }
 
-    // Keeps the accepted sheet.
+    /// Keeps the sheet that was made from the plan's 22 figures.
     pub fn set_sheet(&mut self, sheet: Sheet)
         ensures { self.new ≡ record { sheet = Some sheet; strategy = self.old.strategy; head = self.old.head } }
     {
         self.sheet = Some(sheet);
     }
 
-    // Keeps the strategy that was asked for.
+    /// Keeps the strategy that the plan asks for.
     pub fn set_strategy(&mut self, strategy: StrategyRow)
         ensures { self.new ≡ record { sheet = self.old.sheet; strategy = Some strategy; head = self.old.head } }
     {
         self.strategy = Some(strategy);
     }
 
-    // Keeps the lamp head that was asked for.
+    /// Keeps the lamp head that the plan asks for.
     pub fn set_head(&mut self, head: HeadKind)
         ensures { self.new ≡ record { sheet = self.old.sheet; strategy = self.old.strategy; head = Some head } }
     {
         self.head = Some(head);
     }
 
-    // All that a station is opened with, or the first that is lacking.
+    /// What to open the station with, at the first act. If rows are lacking, the error tells the first of sheet,
+    /// strategy and head.
     pub fn open(self) -> Result<Opening, Misplaced>
         ensures { result ≡ opening_of self }
     {
