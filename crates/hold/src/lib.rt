@@ -1,4 +1,4 @@
-// Holding a recorded log against the log that is expected, row by row.
+// Holds a recorded log against the expected log, row by row.
 #![tactic(auto)]
 
 mod pair;

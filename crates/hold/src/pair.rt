@@ -2,15 +2,17 @@
 ghost use Rattle.std.specs.Prelude.{◌≡◌};
 ghost use Rattle.hold.specs.Rows.{agree, seen};
 
-// The row that is expected there and the row that was recorded there, without their line ends; none where that log has ended.
+/// The rows at one place of two logs (docs/TRIAL.md, "Holding a recorded log").
 #[derive(Clone, Copy)]
 pub struct Pair<'a> {
+    /// The row that is due there, without its line end; none if the expected log has ended.
     pub expected: Option<&'a [u8]>,
+    /// The row that was recorded there, without its line end; none if the recorded log has ended.
     pub recorded: Option<&'a [u8]>,
 }
 
 impl Pair<'_> {
-    // Do the two rows agree: is each there, with the same bytes?
+    /// Whether both rows are there and have the same bytes. Two rows that are both missing do not agree.
     pub fn agrees(&self) -> bool
         ensures { result ≡ agree (seen self.now) }
     {

@@ -1,19 +1,21 @@
-// How many rows agree, and how many differ.
+// Counts the rows that agree and those that differ.
 ghost use Rattle.std.specs.Prelude.{◌≡◌, ◌∷◌, [], List};
 ghost use Rattle.std.specs.List.{list_all};
 ghost use Rattle.hold.specs.Rows.{Rows, agree, seen, tally_of};
 
 use crate::pair::Pair;
 
-// The pairs of rows that agree, and those that differ; each count stops at its highest value.
+/// How many pairs of rows agree and how many differ. Each count stops at 18,446,744,073,709,551,615.
 #[derive(Clone, Copy)]
 pub struct Tally {
+    /// Pairs of rows with the same bytes.
     pub agreeing: u64,
+    /// Pairs of rows with other bytes, and rows after the end of the shorter log.
     pub differing: u64,
 }
 
 impl Tally {
-    // The tally of no rows.
+    /// The tally before the first row.
     pub fn new() -> Tally
         ensures { result ≡ tally_of [] }
     {
@@ -23,7 +25,7 @@ impl Tally {
         }
     }
 
-    // The tally with one pair of rows more.
+    /// The tally with one pair of rows more.
     pub fn with(self, pair: Pair<'_>) -> Tally
         ensures { (rows : List Rows) → self ≡ tally_of rows → result ≡ tally_of (seen pair.entry ∷ rows) }
     {
@@ -40,7 +42,7 @@ impl Tally {
         }
     }
 
-    // Do all rows agree?
+    /// Whether no pair of rows differs; also before the first row.
     pub fn all_agree(self) -> bool
         ensures { (rows : List Rows) → self ≡ tally_of rows → result ≡ list_all agree rows }
     {
