@@ -6,19 +6,22 @@ use crate::fields::Refused;
 use orders::Refusal;
 use std::{fmt, str};
 
-// A command line was taken: the bytes of its reply. Where they are not UTF-8, writing the row gives an error.
+/// Writes the `line` row of a command line that was taken, from the bytes of its reply (docs/TRIAL.md, "The log").
+/// Writing fails if the bytes are not UTF-8; a station's replies always are.
 #[derive(Clone, Copy)]
 pub struct LineTaken<'a>(pub &'a [u8]);
 
-// A command line was refused.
+/// Writes the `line` row of a command line that was refused: number and value of the refusal
+/// (docs/RULES.md, "Refusals").
 #[derive(Clone, Copy)]
 pub struct LineRefused(pub Refusal);
 
-// A breaker reset was taken.
+/// Writes the `reset` row of a breaker reset that was taken.
 #[derive(Clone, Copy)]
 pub struct ResetTaken;
 
-// A breaker reset was refused.
+/// Writes the `reset` row of a breaker reset that was refused: number and value of the refusal
+/// (docs/RULES.md, "Refusals").
 #[derive(Clone, Copy)]
 pub struct ResetRefused(pub Refusal);
 

@@ -1,11 +1,11 @@
-// The row that a whole log ends with.
+// The closing row, with which the log of a whole run ends.
 ghost use Rattle.std.specs.Prelude.{Some};
 ghost use Rattle.log_rows.specs.Whole.{totals_text};
 
 use observer::Totals;
 use std::fmt;
 
-// The closing row of a whole run: its totals.
+/// Writes the closing row of a whole run, from its totals (docs/TRIAL.md, "The log").
 #[derive(Clone, Copy)]
 pub struct Closing(pub Totals);
 

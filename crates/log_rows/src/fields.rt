@@ -6,14 +6,14 @@ ghost use Rattle.log_rows.specs.Rows.{number_or_dash};
 use orders::Refusal;
 use std::fmt;
 
-// What an option holds, or a word where it holds nothing.
+/// Writes what an option holds, or a word if it holds nothing.
 #[derive(Clone, Copy)]
 pub(crate) struct ShownOr<N> {
     pub(crate) held: Option<N>,
     pub(crate) word: &'static str,
 }
 
-// That an act was refused: the number of the refusal and its value, if it has one.
+/// Writes that an act was refused: the number of the refusal and its value, which is empty if there is none.
 #[derive(Clone, Copy)]
 pub(crate) struct Refused(pub(crate) Refusal);
 
@@ -40,7 +40,7 @@ impl fmt::Display for Refused {
     }
 }
 
-// A number, or `-` where there is none.
+/// Writes a number, or `-` if there is none, as in flow and occupancy of a period without a measure.
 #[derive(Clone, Copy, Debug, PartialEq, Eq)]
 pub struct OrDash(pub Option<u32>);
 

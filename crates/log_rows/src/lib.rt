@@ -1,4 +1,4 @@
-// The rows of a trial's log, and what each writes.
+// The rows of a trial's log: each type writes one row, without its line end.
 #![tactic(auto)]
 
 mod acts;

@@ -7,7 +7,8 @@ use crate::words::phase_word;
 use records::{AlarmRecord, PeriodRecord};
 use std::fmt;
 
-// A period closed: its record.
+/// Writes the `period` row of a period that closed: flow in vehicles per period, occupancy in per mille, the
+/// strategy's cycle in seconds (docs/RULES.md, "Records").
 #[derive(Clone, Copy)]
 pub struct PeriodRow(pub PeriodRecord);
 
@@ -31,7 +32,7 @@ impl fmt::Display for PeriodRow {
     }
 }
 
-// The station tripped: the record of the alarm.
+/// Writes the `alarm` row of a trip; code and lamp are written by their numbers (docs/RULES.md, "Records").
 #[derive(Clone, Copy)]
 pub struct AlarmRow(pub AlarmRecord);
 

@@ -7,15 +7,19 @@ use crate::words::{colour_word, phase_word, sign_word};
 use control::{Answer, Trip};
 use std::fmt;
 
-// A second: its number, what the station answered, and the length of the running reference cycle after it.
+/// Writes the `second` row of one second (docs/TRIAL.md, "The log").
 #[derive(Clone, Copy)]
 pub struct SecondRow {
+    /// The second number; the station's first second has 1.
     pub number: u32,
+    /// Colour, phase, advance sign and trip of this second, as the station returned them.
     pub answer: Answer,
+    /// Seconds from one vehicle to the next: the length of the reference cycle that runs after this second, 0 outside
+    /// metering.
     pub cycle: u32,
 }
 
-// The trip of a second, if any: its code and its lamp, by their numbers.
+// Writes the numbers of code and lamp of a trip, or nothing if there was none.
 #[derive(Clone, Copy)]
 struct TripField(Option<Trip>);
 

@@ -5,7 +5,8 @@ ghost use Rattle.log_rows.specs.Rows.{sheet_refused_text};
 use sheet::Refusal;
 use std::fmt;
 
-// The draft was refused.
+/// Writes the `sheet` row of a draft that was refused: refusal 1, 2 or 3 and the number of the figure
+/// (docs/RULES.md, "Accepting a sheet").
 #[derive(Clone, Copy, Debug, PartialEq, Eq)]
 pub struct SheetRefused(pub Refusal);
 

@@ -1,12 +1,11 @@
-// The words of the log for a colour, a phase and the advance sign. They are functions: the words are the log's and the
-// types are other crates', so a Display would take a type of its own for each.
+// The words of the log for a colour, a phase and the advance sign.
 ghost use Rattle.std.specs.Prelude.{◌≡◌};
 ghost use Rattle.log_rows.specs.Fields.{colour_text, phase_text, sign_text};
 
 use lamps::Colour;
 use records::Phase;
 
-// The word for a colour of the light.
+/// The word of the log for a colour of the light (docs/TRIAL.md, "The log").
 pub fn colour_word(colour: Colour) -> &'static str
     ensures { result.now ≡ colour_text colour }
 {
@@ -18,7 +17,7 @@ pub fn colour_word(colour: Colour) -> &'static str
     }
 }
 
-// The word for a phase.
+/// The word of the log for a phase (docs/TRIAL.md, "The log").
 pub fn phase_word(phase: Phase) -> &'static str
     ensures { result.now ≡ phase_text phase }
 {
@@ -34,7 +33,7 @@ pub fn phase_word(phase: Phase) -> &'static str
     }
 }
 
-// The word for an advance sign that is on, or is not.
+/// The word of the log for the advance sign: `on` if `sign` is true, else `off`.
 pub fn sign_word(sign: bool) -> &'static str
     ensures { result.now ≡ sign_text sign }
 {
