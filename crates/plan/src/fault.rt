@@ -1,40 +1,55 @@
-// What can be wrong with a row, and how it is told.
+// What can be wrong with a row, and the words for it.
 ghost use Rattle.std.specs.Prelude.{Some};
 ghost use Rattle.plan.specs.Faults.{wanted_text, fault_text};
 
 use std::fmt;
 
-// The first thing that is wrong with a row. Fields are counted from 1, and the kind of the row is field 1.
+/// The first thing from the left that is wrong with a row (docs/TRIAL.md, "Malformed rows"). Fields are counted from 1,
+/// and the kind of the row is field 1.
 #[derive(Clone, Copy, Debug, PartialEq, Eq)]
 pub enum RowFault {
+    /// The row begins with a word that is no kind of row.
     UnknownKind,
+    /// The row ends before this field.
     Missing { field: u32, wanted: Wanted },
+    /// This field holds something other than what is wanted there.
     Bad { field: u32, wanted: Wanted },
+    /// This is the first field too many.
     Surplus { field: u32 },
 }
 
-// What a field should have been.
+/// What should have stood in a field.
 #[derive(Clone, Copy, Debug, PartialEq, Eq)]
 pub enum Wanted {
+    /// Decimal digits, at most 4,294,967,295.
     Number,
+    /// A number, 0 or 1.
     Presence,
+    /// A lamp word: a number, or `ok`.
     Word,
+    /// The reading of a lane: three numbers, `SEEN|SOUND|BUSY`.
     Lane,
+    /// A range of minutes: two numbers, `FROM..TO`.
     Range,
-    // `alinea`, `plan` or `limiter`.
+    /// `alinea`, `plan` or `limiter`.
     Strategy,
-    // `alinea` or `plan`, below two limiters.
+    /// `alinea` or `plan`, below two limiters.
     Base,
+    /// `relay` or `current`.
     Head,
+    /// `line/` and the bytes of the answer buffer, at most 1,000.
     Buffer,
-    // Of a recorded log: `taken` or `refused`, and what a second answered.
+    /// In a recorded log: `taken` or `refused`.
     Taken,
+    /// In a recorded log: a colour.
     Colour,
+    /// In a recorded log: a phase.
     Phase,
+    /// In a recorded log: the field of the trip, which may be empty.
     Trip,
 }
 
-// Names what should have stood in a field.
+// Writes what should have stood in a field.
 impl fmt::Display for Wanted {
     ghost output = { λ w. Some (wanted_text w) };
 
@@ -57,7 +72,7 @@ impl fmt::Display for Wanted {
     }
 }
 
-// Says which field is wrong, and what was expected there.
+// Writes which field is wrong, and what was expected there.
 impl fmt::Display for RowFault {
     ghost output = { λ e. Some (fault_text e) };
 

@@ -12,6 +12,7 @@ use crate::value::Value;
 use loops::LaneReading;
 use sheet::MinuteRange;
 
+// A number.
 impl Value for u32 {
     ghost means = { decimal };
 
@@ -26,7 +27,7 @@ impl Value for u32 {
     }
 }
 
-// Whether a vehicle is present: 1 or 0.
+// Presence of a vehicle: 1 or 0, leading zeros allowed.
 impl Value for bool {
     ghost means = { presence_of };
 
@@ -45,7 +46,7 @@ impl Value for bool {
     }
 }
 
-// The number that the next part of a field writes.
+/// Takes the next part of a field, and returns the number in it; none if no part is left or it is no number.
 pub(crate) fn next_number(parts: &mut Fields<'_>) -> Option<u32>
     ensures value { result ≡ number_in (fields_left parts.old).fields }
     ensures after { fields_left parts.new ≡ past (fields_left parts.old) }
@@ -53,7 +54,7 @@ pub(crate) fn next_number(parts: &mut Fields<'_>) -> Option<u32>
     read_number(parts.next()?)
 }
 
-// `SEEN|SOUND|BUSY`
+// The reading of a lane, `SEEN|SOUND|BUSY`: vehicles, sound vehicles, busy milliseconds.
 impl Value for LaneReading {
     ghost means = { lane_of };
 
@@ -80,7 +81,7 @@ impl Value for LaneReading {
     }
 }
 
-// `FROM..TO`: between the two points stands nothing.
+// A range of minutes of the week, `FROM..TO`: cut at points, so that the part between the two must be empty.
 impl Value for MinuteRange {
     ghost means = { range_of };
 

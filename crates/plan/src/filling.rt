@@ -1,4 +1,4 @@
-// Several values of one kind, to the end of a row.
+// Reads several values of one kind, to the end of a row.
 ghost use Rattle.plan.specs.Fields.{fields_left};
 ghost use Rattle.plan.specs.Several.{Filled, FilledUp};
 
@@ -6,12 +6,12 @@ use crate::fault::RowFault;
 use crate::fields::Fields;
 use crate::value::{Value, expect_end, next_value};
 
-// Reads the fields that are left into the front of `into`, and says how many there were. A field for which there is no
-// place is surplus.
+/// Reads the fields that are left into the front of `into`, and returns how many there were. A field for which there is
+/// no place is surplus. After an error the front of `into` may have changed.
 pub(crate) fn fill<T: Value>(fields: &mut Fields<'_>, into: &mut [T]) -> Result<usize, RowFault>
     ensures { Filled T.Value.means T.Value.named (fields_left fields.old) into.old into.new result }
 {
-    // Counted beside the loop, since both of its ends need the count, and `enumerate` gives it at one alone.
+    // Not by `enumerate`, which has no count to give once all places are filled.
     let mut count = 0;
     for place in into.iter_mut() {
         if fields.is_empty() {
@@ -24,7 +24,7 @@ pub(crate) fn fill<T: Value>(fields: &mut Fields<'_>, into: &mut [T]) -> Result<
     Ok(count)
 }
 
-// Reads the fields that are left into all of `into`: neither too few of them nor too many.
+/// Reads the fields that are left into all of `into`. One too few is missing, one too many is surplus.
 pub(crate) fn fill_up<T: Value>(fields: &mut Fields<'_>, into: &mut [T]) -> Result<(), RowFault>
     ensures { FilledUp T.Value.means T.Value.named (fields_left fields.old) into.new result }
 {

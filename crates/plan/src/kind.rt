@@ -1,7 +1,8 @@
-// The kinds of rows, but for blank rows and command lines.
+// The names of the kinds of rows.
 ghost use Rattle.std.specs.Prelude.{◌≡◌};
 ghost use Rattle.plan.specs.Rows.{kind_named};
 
+/// The kinds of rows that have one fixed name: all but blank rows and command lines.
 #[derive(Clone, Copy)]
 pub(crate) enum Kind {
     Sheet,
@@ -13,7 +14,7 @@ pub(crate) enum Kind {
     Reset,
 }
 
-// The kind of this name, if it is one.
+/// The kind of this name, if there is one.
 pub(crate) fn kind_named(name: &[u8]) -> Option<Kind>
     ensures { result ≡ kind_named name.now }
 {

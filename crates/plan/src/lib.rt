@@ -1,4 +1,4 @@
-// The rows of a trial plan, and those of a recorded log: what each of them says.
+// Reads the rows of a trial plan, and those of a recorded log (docs/TRIAL.md).
 #![tactic(auto)]
 
 mod fault;

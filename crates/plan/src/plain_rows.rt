@@ -1,4 +1,4 @@
-// The rows that carry no list.
+// Reads the rows that carry no list of lanes or ranges.
 ghost use Rattle.std.specs.Prelude.{◌≡◌};
 ghost use Rattle.plan.specs.Fields.{fields_of, fields_left};
 ghost use Rattle.plan.specs.Rows.{is_blank, sheet_of, head_row_of, reset_of, buffer_in, line_in};
@@ -10,7 +10,7 @@ use crate::filling::fill_up;
 use crate::row::Row;
 use crate::value::{expect_end, next_value};
 
-// Does the row say nothing? A row that begins with `#` is a comment.
+/// Whether the row says nothing: it is empty, or begins with `#`.
 pub(crate) fn is_blank(text: &[u8]) -> bool
     ensures { result ≡ is_blank text.now }
 {
@@ -20,7 +20,7 @@ pub(crate) fn is_blank(text: &[u8]) -> bool
     }
 }
 
-// The 22 figures of a sheet.
+/// Reads the 22 figures of a sheet, in the order of the sheet; their limits are not looked at here.
 pub(crate) fn read_sheet(fields: &mut Fields<'_>) -> Result<Row, RowFault>
     ensures { result ≡ sheet_of (fields_left fields.old) }
 {
@@ -29,7 +29,7 @@ pub(crate) fn read_sheet(fields: &mut Fields<'_>) -> Result<Row, RowFault>
     Ok(Row::Sheet(figures))
 }
 
-// The lamp head that the next field names, which is the last.
+/// Reads the lamp head, which is named in the next and last field.
 pub(crate) fn read_head(fields: &mut Fields<'_>) -> Result<Row, RowFault>
     ensures { result ≡ head_row_of (fields_left fields.old) }
 {
@@ -38,7 +38,7 @@ pub(crate) fn read_head(fields: &mut Fields<'_>) -> Result<Row, RowFault>
     Ok(Row::Head(kind))
 }
 
-// No further field.
+/// Reads a breaker reset, which has no further field.
 pub(crate) fn read_reset(fields: &Fields<'_>) -> Result<Row, RowFault>
     ensures { result ≡ reset_of (fields_left fields.now) }
 {
@@ -46,7 +46,7 @@ pub(crate) fn read_reset(fields: &Fields<'_>) -> Result<Row, RowFault>
     Ok(Row::Reset)
 }
 
-// A line, from what stands behind the `/`: an answer buffer of at most 1,000 bytes, and of 80 where nothing is said.
+// Reads the bytes of the answer buffer, which stand after the `/`: at most 1,000, and 80 if there is no `/`.
 fn read_buffer(parts: &mut Fields<'_>) -> Result<Row, RowFault>
     ensures { result ≡ buffer_in (fields_left parts.old).fields }
 {
@@ -62,7 +62,8 @@ fn read_buffer(parts: &mut Fields<'_>) -> Result<Row, RowFault>
     }
 }
 
-// The row of a command line, from its name: `line`, or `line/` and the size of its answer buffer.
+/// Reads a command line from its name: `line`, or `line/` and the bytes of its answer buffer. Another name is an
+/// unknown kind of row.
 pub(crate) fn read_line(name: &[u8]) -> Result<Row, RowFault>
     ensures { result ≡ line_in (fields_of 47 name.now) }
 {

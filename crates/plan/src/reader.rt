@@ -16,18 +16,18 @@ use crate::value::next_value;
 use loops::LaneReading;
 use sheet::MinuteRange;
 
-// What stands in the place of a lane that a row does not tell of.
+// Fills the places of lanes that a row does not have.
 const NO_LANE: LaneReading = LaneReading {
     seen: 0,
     sound: 0,
     busy_ms: 0,
 };
 
-// What stands in the place of a range that a row does not tell of.
+// Fills the places of ranges that a row does not have.
 const NO_RANGE: MinuteRange = MinuteRange { from: 0, to: 0 };
 
-// Reads the rows of a plan, one after the other. It keeps the lists that rows carry: the lanes of the row read last, and
-// the calendar at the moment.
+/// Reads the rows of a plan, one after the other (docs/TRIAL.md, "The plan"). It keeps the lists that rows carry: the
+/// lanes of the newest row, and the calendar that holds at this row.
 #[derive(Debug, Drop)]
 pub struct Reader {
     lanes: UpTo<LaneReading, 16>,
@@ -35,7 +35,7 @@ pub struct Reader {
 }
 
 impl Reader {
-    // Nothing is read yet, and the calendar is empty.
+    /// A reader before the first row of a plan; its calendar is empty.
     pub fn new() -> Reader
         ensures lanes { lanes_kept result ≡ [] }
         ensures calendar { calendar_kept result ≡ [] }
@@ -46,21 +46,23 @@ impl Reader {
         }
     }
 
-    // The lanes of the row read last: none where it tells of no second, or is wrong.
+    /// The lane readings of the newest row, lane 1 first. There are none if that row is no `second` or `seconds` row,
+    /// or is malformed.
     pub fn lanes(&self) -> &[LaneReading]
         ensures { result.now ≡ lanes_kept self.now }
     {
         self.lanes.as_slice()
     }
 
-    // The calendar at the moment: the ranges of the last row of a calendar that was read, and none before the first.
+    /// The calendar that holds from here on: the ranges of the newest well-formed `calendar` row, none before
+    /// the first.
     pub fn calendar(&self) -> &[MinuteRange]
         ensures { result.now ≡ calendar_kept self.now }
     {
         self.calendar.as_slice()
     }
 
-    // The row of a calendar, from the fields behind its name. A calendar that is wrong leaves the one before.
+    // Reads a calendar from the fields after the row's name. A malformed one leaves the calendar as it was.
     fn read_calendar(&mut self, fields: &mut Fields<'_>) -> Result<Row, RowFault>
         requires { lanes_kept self.now ≡ [] }
         ensures { ReadAs (calendar_row_of (fields_left fields.old)) self.old self.new result }
@@ -71,7 +73,7 @@ impl Reader {
         Ok(Row::Calendar)
     }
 
-    // The row of this kind, from the fields behind its name.
+    // Reads a row of this kind from the fields after its name.
     #[tactic(auto, using(crate::proofs::Alone::plain_row, crate::proofs::Alone::plain_lanes, crate::proofs::Alone::plain_calendar))]
     fn read_as(&mut self, kind: Kind, fields: &mut Fields<'_>) -> Result<Row, RowFault>
         requires { lanes_kept self.now ≡ [] }
@@ -92,7 +94,7 @@ impl Reader {
         }
     }
 
-    // The row of this name, from the fields behind it.
+    // Reads a row of this name from the fields after it.
     #[tactic(auto, using(crate::proofs::Alone::plain_row, crate::proofs::Alone::plain_lanes, crate::proofs::Alone::plain_calendar), unfolding(crate::specs::Rows::row_named))]
     fn read_named(&mut self, name: &[u8], fields: &mut Fields<'_>) -> Result<Row, RowFault>
         requires { lanes_kept self.now ≡ [] }
@@ -104,8 +106,8 @@ impl Reader {
         }
     }
 
-    // What a row says, or the first field of it that is wrong. The text is the row's without its ends, as `row_text` gives
-    // it. A row that is wrong leaves the calendar as it was.
+    /// What a row says, or the first thing from the left that is wrong with it. `text` is the row as `row_text` cuts
+    /// it. A malformed row leaves the calendar as it was.
     #[tactic(auto, unfolding(crate::specs::Rows::row_of))]
     pub fn read(&mut self, text: &[u8]) -> Result<Row, RowFault>
         ensures { ReadAs (row_of text.now) self.old self.new result }

@@ -1,8 +1,7 @@
-// The rows of a recorded log, as far as a judge of runs looks at them.
+// Reads the rows of a recorded log, as far as judging a run needs them.
 ghost use Rattle.std.specs.Prelude.{◌≡◌};
 ghost use Rattle.plan.specs.Fields.{fields_left};
 ghost use Rattle.plan.specs.Recorded.{second_recorded, taken_recorded, recorded_named, recorded_of};
-
 
 use crate::fault::RowFault;
 use crate::fields::Fields;
@@ -11,26 +10,32 @@ use crate::value::next_value;
 use lamps::Colour;
 use records::Phase;
 
-// What a row of a recorded log says.
+/// What a row of a recorded log says (docs/TRIAL.md, "Judging a recorded log").
 #[derive(Clone, Copy, Debug, PartialEq, Eq)]
 pub enum RecordedRow {
+    /// A second.
     Second(RecordedSecond),
-    // A command line or a breaker reset: was it taken?
+    /// A command line, and whether it was taken.
     Line { taken: bool },
+    /// A breaker reset, and whether it was taken.
     Reset { taken: bool },
-    // Rows of other kinds tell a judge nothing.
+    /// A row of another kind, which is passed over.
     Other,
 }
 
-// What a second answered: its colour and phase, and whether it tripped.
+/// What a `second` row of a recorded log says of its second.
 #[derive(Clone, Copy, Debug, PartialEq, Eq)]
 pub struct RecordedSecond {
+    /// The colour of the light.
     pub colour: Colour,
+    /// The phase.
     pub phase: Phase,
+    /// Whether the station tripped in this second: the field of the trip is not empty.
     pub trips: bool,
 }
 
-// The second that the fields left tell of. Its number, its advance sign and what is behind its trip are not looked at.
+// Reads a second from the fields that are left. Its number, its advance sign and the fields after its trip may be
+// anything.
 fn read_second(fields: &mut Fields<'_>) -> Result<RecordedSecond, RowFault>
     ensures { result ≡ second_recorded (fields_left fields.old) }
 {
@@ -46,7 +51,7 @@ fn read_second(fields: &mut Fields<'_>) -> Result<RecordedSecond, RowFault>
     })
 }
 
-// Whether the next field says that an act was taken.
+// Reads from the next field whether an act was taken.
 fn read_taken(fields: &mut Fields<'_>) -> Result<bool, RowFault>
     ensures { result ≡ taken_recorded (fields_left fields.old) }
 {
@@ -54,7 +59,7 @@ fn read_taken(fields: &mut Fields<'_>) -> Result<bool, RowFault>
     Ok(word.taken)
 }
 
-// The row of this name, from the fields behind it.
+// Reads a row of this name from the fields after it.
 #[tactic(auto, unfolding(crate::specs::Recorded::recorded_named))]
 fn read_named(name: &[u8], fields: &mut Fields<'_>) -> Result<RecordedRow, RowFault>
     ensures { result ≡ recorded_named name.now (fields_left fields.old) }
@@ -73,7 +78,8 @@ fn read_named(name: &[u8], fields: &mut Fields<'_>) -> Result<RecordedRow, RowFa
     }
 }
 
-// What a row says, or the first field of it that is wrong. The text is the row's without its line end.
+/// What a row says, or the first field from the left that is missing or wrong in a `second`, `line` or `reset` row.
+/// `row` has no line end, as `without_end` cuts it.
 #[tactic(auto, unfolding(crate::specs::Recorded::recorded_of))]
 pub fn read_recorded(row: &[u8]) -> Result<RecordedRow, RowFault>
     ensures { result ≡ recorded_of row.now }

@@ -1,4 +1,4 @@
-// The fields of a recorded log that hold words.
+// Reads the fields of a recorded log that hold words.
 ghost use Rattle.std.specs.Prelude.{◌≡◌};
 ghost use Rattle.plan.specs.Recorded.{colour_of, phase_of, trip_of, taken_of};
 ghost use Rattle.plan.specs.Words.{reads};
@@ -29,7 +29,8 @@ impl Value for Colour {
     }
 }
 
-// Is this the text? A match on texts as long as the names of phases is not proved.
+/// Whether the text is this word. Phases are told apart by it, since the prover cannot do a `match` on words as long as
+/// theirs.
 pub(crate) fn is(text: &[u8], word: &[u8]) -> bool
     ensures { result ≡ reads text.now word.now }
 {
@@ -68,7 +69,7 @@ impl Value for Phase {
     }
 }
 
-// Whether a second tripped: the field of its trip is empty where it did not.
+/// The field of a trip, which is empty if the second did not trip.
 #[derive(Clone, Copy)]
 pub(crate) struct TripField {
     pub(crate) trips: bool,
@@ -90,7 +91,7 @@ impl Value for TripField {
     }
 }
 
-// Whether an act was taken: `taken`, or `refused`.
+/// The field that says how an act ended: `taken` or `refused`.
 #[derive(Clone, Copy)]
 pub(crate) struct TakenWord {
     pub(crate) taken: bool,

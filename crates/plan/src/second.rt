@@ -1,4 +1,4 @@
-// The fields that tell of a second.
+// Reads the fields of a second.
 ghost use Rattle.std.specs.Prelude.{◌≡◌, []};
 ghost use Rattle.plan.specs.Fields.{fields_left};
 ghost use Rattle.plan.specs.Lists.{items_in};
@@ -11,7 +11,7 @@ use crate::up_to::UpTo;
 use crate::value::next_value;
 use loops::LaneReading;
 
-// The second that the fields left tell of. Its lanes are read into `lanes`.
+/// Reads a second from the fields that are left, and its lanes into `lanes`, which stays empty if a field is wrong.
 pub(crate) fn read_second(
     fields: &mut Fields<'_>,
     lanes: &mut UpTo<LaneReading, 16>,

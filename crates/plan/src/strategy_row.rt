@@ -1,4 +1,4 @@
-// The row that names a strategy, with up to two limiters over it.
+// Reads the row of a strategy, with up to two limiters over it.
 ghost use Rattle.std.specs.Prelude.{◌≡◌};
 ghost use Rattle.plan.specs.Fields.{fields_left};
 ghost use Rattle.plan.specs.Strategies.{base_as, strategy_of, limited_of, twice_of};
@@ -10,7 +10,7 @@ use crate::row::{Base, Limits, StrategyRow};
 use crate::value::{expect_end, next_value};
 use crate::words::{BaseWord, StrategyWord};
 
-// The strategy of this name, from the fields behind the name.
+// Reads the strategy of this name from the fields after the name.
 fn read_base(fields: &mut Fields<'_>, word: BaseWord) -> Result<Base, RowFault>
     ensures { result ≡ base_as word (fields_left fields.old) }
 {
@@ -27,7 +27,7 @@ fn read_base(fields: &mut Fields<'_>, word: BaseWord) -> Result<Base, RowFault>
     }
 }
 
-// What stands behind a second `limiter`, below one of the step `outer`.
+// Reads what stands after a second `limiter`, below one with the step `outer`.
 fn read_twice(fields: &mut Fields<'_>, outer: u32) -> Result<StrategyRow, RowFault>
     ensures { result ≡ twice_of outer (fields_left fields.old) }
 {
@@ -40,7 +40,7 @@ fn read_twice(fields: &mut Fields<'_>, outer: u32) -> Result<StrategyRow, RowFau
     })
 }
 
-// What stands behind the first `limiter`.
+// Reads what stands after the first `limiter`.
 fn read_limited(fields: &mut Fields<'_>) -> Result<StrategyRow, RowFault>
     ensures { result ≡ limited_of (fields_left fields.old) }
 {
@@ -57,7 +57,7 @@ fn read_limited(fields: &mut Fields<'_>) -> Result<StrategyRow, RowFault>
     }
 }
 
-// The strategy that the fields left name.
+/// Reads a strategy, and the limiters over it, from the fields that are left.
 pub(crate) fn read_strategy(fields: &mut Fields<'_>) -> Result<StrategyRow, RowFault>
     ensures { result ≡ strategy_of (fields_left fields.old) }
 {

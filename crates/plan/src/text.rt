@@ -1,9 +1,9 @@
-// What a row of a plan is once its ends are cut off.
+// Cuts the ends off rows.
 ghost use Rattle.std.specs.Prelude.{◌≡◌, ◌==◌};
 ghost use Rattle.std.specs.List.{position};
 ghost use Rattle.plan.specs.Text.{without_last, without_end, unpadded, without_bom, row_text, command_text};
 
-// The text without this byte at its end, if it has it there.
+// The text without its last byte, if that is `byte`.
 fn without_last(text: &[u8], byte: u8) -> &[u8]
     ensures { result.now ≡ without_last byte text.now }
 {
@@ -13,7 +13,8 @@ fn without_last(text: &[u8], byte: u8) -> &[u8]
     }
 }
 
-// The row without its line feed, and without one carriage return right before that.
+/// The row without its line feed, and without one carriage return right before that. A row without a line feed stays
+/// whole (docs/TRIAL.md, "Rows, fields, numbers").
 pub fn without_end(raw: &[u8]) -> &[u8]
     ensures { result.now ≡ without_end raw.now }
 {
@@ -23,7 +24,7 @@ pub fn without_end(raw: &[u8]) -> &[u8]
     }
 }
 
-// The row without the separators at its end.
+// The row without the separators at its end, which pad it.
 fn without_padding(text: &[u8]) -> &[u8]
     ensures { result.now ≡ unpadded text.now }
 {
@@ -34,7 +35,7 @@ fn without_padding(text: &[u8]) -> &[u8]
     row
 }
 
-// The row behind a byte order mark, if it begins with one.
+// The row after a byte order mark, if it begins with one.
 fn without_bom(text: &[u8]) -> &[u8]
     ensures { result.now ≡ without_bom text.now }
 {
@@ -44,7 +45,8 @@ fn without_bom(text: &[u8]) -> &[u8]
     }
 }
 
-// The text of a row as it was read, with its line end if it has one. `first` says that the row opens the plan.
+/// The text of a row without its line end and its padding. `raw` is the row as it stands in the file; `first` says that
+/// it is the first row of the plan, where a byte order mark is passed over.
 pub fn row_text(raw: &[u8], first: bool) -> &[u8]
     ensures { result.now ≡ row_text raw.now first }
 {
@@ -52,14 +54,15 @@ pub fn row_text(raw: &[u8], first: bool) -> &[u8]
     if first { without_bom(row) } else { row }
 }
 
-// Where the first mark stands, if there is one.
+/// The place of the first byte `mark`, counted from 0, if there is one.
 pub(crate) fn find(text: &[u8], mark: u8) -> Option<usize>
     ensures { result ≡ position (λ b. b == mark) text.now }
 {
     text.iter().position(|byte| *byte == mark)
 }
 
-// What stands behind the first separator of a row, or nothing.
+/// The command line in a `line` row: every byte after the first separator, further separators included; empty if there
+/// is none. `row` is the row as `row_text` cuts it.
 pub fn command_text(row: &[u8]) -> &[u8]
     ensures { result.now ≡ command_text row.now }
 {

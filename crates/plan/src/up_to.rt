@@ -1,4 +1,4 @@
-// Values of one kind, as many as a row has.
+// Keeps values of one kind, as many as a row has.
 ghost use Rattle.std.specs.Prelude.{◌≡◌, []};
 ghost use Rattle.plan.specs.Fields.{fields_left};
 ghost use Rattle.plan.specs.Lists.{items_in, items_or_none};
@@ -10,15 +10,17 @@ use crate::fields::Fields;
 use crate::filling::fill;
 use crate::value::Value;
 
-// Up to so many values of one kind, in fixed memory.
+/// Up to `MOST` values of one kind, in fixed memory.
 #[derive(Clone, Copy, Debug)]
 pub(crate) struct UpTo<T, const MOST: usize> {
+    // The values stand in front; the places after them mean nothing.
     items: [T; MOST],
+    // How many values there are.
     count: usize,
 }
 
 impl<T: Copy, const MOST: usize> UpTo<T, MOST> {
-    // No value. `unused` stands in the places without one.
+    /// No value. `unused` fills the places without one.
     pub(crate) fn none(unused: T) -> UpTo<T, MOST>
         ensures { items_in result ≡ [] }
     {
@@ -30,7 +32,7 @@ impl<T: Copy, const MOST: usize> UpTo<T, MOST> {
 }
 
 impl<T, const MOST: usize> UpTo<T, MOST> {
-    // The values, in the order of the row.
+    /// The values, in the order of the row.
     pub(crate) fn as_slice(&self) -> &[T]
         ensures { result.now ≡ items_in self.now }
     {
@@ -38,7 +40,7 @@ impl<T, const MOST: usize> UpTo<T, MOST> {
         &items[..self.count.min(MOST)]
     }
 
-    // Takes all values away.
+    /// Takes all values away.
     pub(crate) fn clear(&mut self)
         ensures { items_in self.new ≡ [] }
     {
@@ -47,10 +49,12 @@ impl<T, const MOST: usize> UpTo<T, MOST> {
 }
 
 impl<T: Value, const MOST: usize> UpTo<T, MOST> {
-    // Reads the values in the fields that are left, in the place of those before; none where a field is wrong.
+    /// Replaces the values by those in the fields that are left. There are none after an error: a field is wrong, or
+    /// there are more than `MOST`.
     pub(crate) fn read(&mut self, fields: &mut Fields<'_>) -> Result<(), RowFault>
         ensures fault { result ≡ checked (at_most T.Value.means T.Value.named MOST (fields_left fields.old)) }
-        ensures items { items_in self.new ≡ items_or_none (at_most T.Value.means T.Value.named MOST (fields_left fields.old)) }
+        ensures items { items_in self.new ≡
+            items_or_none (at_most T.Value.means T.Value.named MOST (fields_left fields.old)) }
     {
         self.count = 0;
         self.count = fill(fields, &mut self.items)?;

@@ -1,4 +1,4 @@
-// The fields that hold words: the lamps' word, heads and strategies.
+// Reads the fields that hold words: lamp words, heads and strategies.
 ghost use Rattle.plan.specs.Words.{word_of, head_of, base_of, strategy_word_of};
 ghost use Rattle.plan.specs.declared.fault.Wanted.TheVariants.{Word as AWord, Head, Base, Strategy};
 
@@ -7,7 +7,7 @@ use crate::number::read_number;
 use crate::row::{HeadKind, Word};
 use crate::value::Value;
 
-// A number, or `ok`.
+// A lamp word: a number, or `ok`.
 impl Value for Word {
     ghost means = { word_of };
 
@@ -25,6 +25,7 @@ impl Value for Word {
     }
 }
 
+// A lamp head: `relay` or `current`.
 impl Value for HeadKind {
     ghost means = { head_of };
 
@@ -43,8 +44,7 @@ impl Value for HeadKind {
     }
 }
 
-// The word for a strategy that has none below it. It is a value of its field, read and refused like any other, before the
-// fields behind it are read.
+/// The words for strategies that have none below them.
 #[derive(Clone, Copy)]
 pub(crate) enum BaseWord {
     Alinea,
@@ -69,8 +69,7 @@ impl Value for BaseWord {
     }
 }
 
-// The word for a strategy or for a limiter over one.
-// It is no Option of a base, since `limiter` is a word of its own, and not the absence of one.
+/// The words for a strategy, or for a limiter over one.
 #[derive(Clone, Copy)]
 pub(crate) enum StrategyWord {
     Limiter,
