@@ -11,8 +11,6 @@ mod words;
 
 pub use acts::{LineRefused, LineTaken, ResetRefused, ResetTaken};
 pub use closing::Closing;
-pub use fields::OrDash;
 pub use record_rows::{AlarmRow, PeriodRow};
 pub use second::SecondRow;
 pub use sheet_refused::SheetRefused;
-pub use words::{colour_word, phase_word, sign_word};

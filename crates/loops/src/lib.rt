@@ -7,7 +7,5 @@ mod lane;
 mod reading;
 mod tally;
 
-pub use figures::LoopFigures;
-pub use lane::LaneTally;
 pub use reading::LaneReading;
 pub use tally::PeriodTally;

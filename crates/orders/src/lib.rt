@@ -11,4 +11,3 @@ mod tokens;
 pub use fault::{OrderFault, ReaderFault, Refusal};
 pub use order::Order;
 pub use reader::{laws_hold, read_order};
-pub use token::Token;

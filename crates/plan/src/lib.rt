@@ -20,7 +20,6 @@ mod value;
 mod words;
 
 pub use fault::{RowFault, Wanted};
-pub use fields::Fields;
 pub use number::read_number;
 pub use reader::Reader;
 pub use recorded::{RecordedRow, RecordedSecond, read_recorded};
