@@ -1,4 +1,4 @@
-// What the centre and the calendar want: mode, order, and why an order is refused.
+// Mode, centre's cycle and whether metering is wanted: what the centre's orders and the calendar make of them.
 ghost use Rattle.std.specs.Prelude.{◌≡◌, ◌&&◌};
 ghost use Rattle.control.specs.Lines.{in_mode, refused_by, unless_refused, commanded};
 ghost use Rattle.control.specs.Figures.{service_seconds};
@@ -8,23 +8,28 @@ use crate::answer::Refused;
 use orders::Order;
 use sheet::Sheet;
 
-// Who says whether metering is wanted: the calendar, or the centre's lines.
+/// Who says whether metering is wanted. (docs/RULES.md, "Purpose and units")
 #[derive(Clone, Copy, Default)]
 pub enum Mode {
+    /// The calendar; the mode of a fresh station and after a breaker reset.
     #[default]
     Local,
+    /// The command lines of the traffic control centre.
     Central,
 }
 
-// The mode, whether metering is wanted, and the cycle that the centre sent, if it is set.
+/// What command lines settle. Its default is that of a fresh station: local mode, not wanted, no centre's cycle.
 #[derive(Clone, Copy, Default)]
 pub struct Command {
+    /// Whether calendar or command lines settle `wanted`.
     pub mode: Mode,
+    /// Whether metering is wanted, as the newest second or command line settled it.
     pub wanted: bool,
+    /// The centre's cycle in seconds, 4 to 120; none if it is not set.
     pub centre_cycle: Option<u32>,
 }
 
-// Takes an order of the centre in this mode, or says why it is refused.
+// Refuses, in local mode, the orders that need central mode.
 fn check_mode(mode: Mode) -> Result<(), Refused>
     ensures { result ≡ unless_refused (in_mode mode) }
 {
@@ -34,7 +39,9 @@ fn check_mode(mode: Mode) -> Result<(), Refused>
     }
 }
 
-// Takes an order, or says why it is refused.
+/// Whether a station in this mode takes the order. Status readings are always taken. A tripped station refuses the
+/// others with `Tripped`; local mode refuses a centre's cycle and "not wanted" with `LocalMode`.
+/// (docs/RULES.md, "Refusals")
 pub fn check_order(tripped: bool, mode: Mode, order: Order) -> Result<(), Refused>
     ensures { result ≡ unless_refused (refused_by tripped mode order) }
 {
@@ -47,7 +54,8 @@ pub fn check_order(tripped: bool, mode: Mode, order: Order) -> Result<(), Refuse
 }
 
 impl Command {
-    // What an order that is taken makes of it.
+    /// What a taken order makes of mode, wanted and centre's cycle. It does not check that the order may be taken:
+    /// `check_order` does. (docs/RULES.md, "Command lines")
     pub fn after(self, order: Order) -> Command
         ensures { result ≡ commanded order self }
     {
@@ -74,8 +82,9 @@ impl Command {
         }
     }
 
-    // Whether metering is wanted in this second, from whether the station stands by, whether the minute is in the calendar,
-    // and the seconds shown since standby.
+    /// Whether metering is wanted in this second. Central mode keeps what command lines settled. Local mode wants it
+    /// with the minute `inside` the calendar, and outside standby until 60 × X seconds were `shown` since standby.
+    /// (docs/RULES.md, "One second")
     pub fn wanted_after(self, sheet: &Sheet, standby: bool, inside: bool, shown: u32) -> bool
         ensures { result ≡ wanted_after sheet.now self.mode self.wanted standby inside shown }
     {
@@ -86,7 +95,7 @@ impl Command {
     }
 }
 
-// The seconds of the shortest service.
+// The shortest service in local mode, in seconds.
 fn service_seconds(sheet: &Sheet) -> u32
     ensures { result ≡ service_seconds sheet.now }
 {

@@ -6,23 +6,28 @@ ghost use Rattle.control.specs.Seconds.{counted_if, counts_after};
 use crate::stage::Stage;
 use records::count_after;
 
-// The second number, the periods closed, the openings since the last period record, and the seconds shown since standby.
+/// The counts of a station, at first 0. Each stops at 4,294,967,295. (docs/RULES.md, "Purpose and units")
 #[derive(Clone, Copy, Default)]
 pub struct Counts {
+    /// The number of the newest second, 0 before the first.
     pub seconds: u32,
+    /// The periods closed: the number of the newest period record.
     pub periods: u32,
+    /// Openings since the last period record. An opening is the first second of a window flash, which lets one
+    /// vehicle go.
     pub openings: u32,
+    /// Seconds of other phases shown since standby; tripped seconds are not counted.
     pub shown: u32,
 }
 
-// A count with one more if that holds; it stops at its highest value.
+/// The count, with one more if `holds`; it stops at 4,294,967,295.
 pub fn counted_if(holds: bool, count: u32) -> u32
     ensures { result ≡ counted_if holds count }
 {
     if holds { count_after(count) } else { count }
 }
 
-// What is left of a count after a close, or all of it without one.
+// 0 if a period closed, else the count.
 fn unless_closed(closed: bool, count: u32) -> u32
     ensures { result ≡ (if closed then 0 else count) }
 {
@@ -30,7 +35,8 @@ fn unless_closed(closed: bool, count: u32) -> u32
 }
 
 impl Counts {
-    // The counts after a second of this phase, which closed a period or did not.
+    /// The counts after a second that ended in `stage`; `closed` says that a period closed in it. An opening in the
+    /// second of a close counts for the next period record. (docs/RULES.md, "Where rules left room")
     pub fn after(self, closed: bool, stage: Stage) -> Counts
         ensures { result ≡ counts_after closed stage self }
     {

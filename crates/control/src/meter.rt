@@ -1,4 +1,4 @@
-// A second of metering: the reference clock, then the light.
+// Metering: the reference clock and the light. (docs/RULES.md, "Metering")
 ghost use Rattle.std.specs.Prelude.{◌≡◌, ◌+◌, false, if◌then◌else◌, ◌&&◌, nat_lt};
 ghost use Rattle.control.specs.Phases.{colour_of_light};
 ghost use Rattle.control.specs.declared.meter.Light.TheVariants.{Red};
@@ -10,28 +10,37 @@ use crate::stage::{Conditions, Stage};
 use lamps::Colour;
 use sheet::Sheet;
 
-// The light of metering: window flash, window amber, red.
+/// The light of metering. A window is window flash and then window amber: it lets one vehicle go.
 #[derive(Clone, Copy)]
 pub enum Light {
+    /// Window flash: flashing amber for JC seconds.
     Flash,
+    /// Window amber: fixed amber for JF seconds.
     Amber,
+    /// Metered red, for RM seconds at least.
     Red,
 }
 
-// What a metering station keeps: its light with the seconds shown of it, the running reference cycle with its length and
-// the seconds it has lasted (both 0 where none runs), and the arrears: reference cycles begun whose vehicle was not let go.
-// No Option of a reference cycle: none runs only before the first second, which begins one, and each use would match it.
+/// What a metering station keeps: its light, the running reference cycle and the arrears. A reference cycle is the
+/// seconds from one vehicle to the next; none runs only before the first second of metering.
+/// (docs/RULES.md, "Metering")
 #[derive(Clone, Copy)]
 pub struct Meter {
+    /// The light of the newest second.
     pub light: Light,
+    /// Seconds of this light shown in a row, the newest included; in red this is the red age. It stops at
+    /// 4,294,967,295.
     pub age: u32,
+    /// The length of the running reference cycle in seconds, fixed when it began; 0 where none runs.
     pub length: u32,
+    /// The seconds that the running reference cycle has lasted, the newest included; 0 where none runs.
     pub lasted: u32,
+    /// Arrears: the reference cycles begun whose vehicle has not been let go, 60,000 at most.
     pub arrears: u32,
 }
 
 impl Light {
-    // The colour of the light.
+    /// The colour that the light orders. (docs/RULES.md, "Succession")
     pub fn colour(self) -> Colour
         ensures { result ≡ colour_of_light self }
     {
@@ -47,7 +56,8 @@ impl Light {
 const MOST_ARREARS: u32 = 60_000;
 
 impl Meter {
-    // Metering as it starts: red of age 0, no arrears, no reference cycle running.
+    /// Metering before its first second: red of age 0, no arrears, no reference cycle running. Seconds of opening red
+    /// do not count for the red age. (docs/RULES.md, "Metering")
     pub fn start() -> Meter
         ensures { result ≡ started }
     {
@@ -60,14 +70,15 @@ impl Meter {
         }
     }
 
-    // Does the running reference cycle go on?
+    /// Whether the running reference cycle goes on in the next second; otherwise one begins there.
     pub fn runs(self) -> bool
         ensures { result ≡ runs self }
     {
         self.lasted < self.length
     }
 
-    // The reference clock's second. A reference cycle that begins has this length.
+    /// One second of the reference clock: the running reference cycle goes on, or one of `length` seconds begins and
+    /// arrears grow by 1, to 60,000 at most. The light stays. (docs/RULES.md, "Metering")
     pub fn clocked(self, length: u32) -> Meter
         ensures { result ≡ clocked length self }
     {
@@ -86,9 +97,10 @@ impl Meter {
         }
     }
 
-    // One second more of a light that lasts so many seconds, or the first of the next light.
+    // One second more of a light that lasts so many seconds, or else the first second of the next light.
     fn lasting(self, light: Light, seconds: u32, next: Light) -> Stage
-        ensures { result ≡ Metering (if nat_lt self.age seconds then lit light (self.age + 1) self.arrears self else lit next 1 self.arrears self) }
+        ensures { result ≡ Metering (if nat_lt self.age seconds then lit light (self.age + 1) self.arrears self else
+            lit next 1 self.arrears self) }
     {
         if self.age < seconds {
             Stage::Metering(Meter {
@@ -105,7 +117,7 @@ impl Meter {
         }
     }
 
-    // Red stays, and its age grows.
+    // One second more of red.
     fn red_stays(self) -> Stage
         ensures { result ≡ red_stays self }
     {
@@ -128,23 +140,24 @@ impl Meter {
         })
     }
 
-    // Is the red younger than the minimum?
+    // Whether the red is younger than RM.
     fn is_young(self, sheet: &Sheet) -> bool
         ensures { result ≡ nat_lt self.age (RM sheet.now) }
     {
         self.age < sheet.figures().minimum_red
     }
 
-    // May a vehicle go: is one there, and is one due?
+    // Whether a vehicle is let go: one stands at the line, and one is in arrears.
     fn may_go(self, presence: bool) -> bool
         ensures { result ≡ (presence && nat_lt 0 self.arrears) }
     {
         presence && self.arrears > 0
     }
 
-    // Red that is old enough: the first of these that holds is done.
+    // The second after red of age RM or more; what is asked first goes first.
     fn after_old_red(self, conditions: Conditions) -> Stage
-        ensures { result ≡ red_step false conditions.wanted conditions.full (conditions.presence && nat_lt 0 self.arrears) self }
+        ensures { result ≡ red_step false conditions.wanted conditions.full
+            (conditions.presence && nat_lt 0 self.arrears) self }
     {
         if !conditions.wanted {
             Stage::Closing(1)
@@ -157,7 +170,7 @@ impl Meter {
         }
     }
 
-    // A second of red, or what ends it.
+    // The second after red of any age.
     fn after_red(self, sheet: &Sheet, conditions: Conditions) -> Stage
         ensures { result ≡ light_step sheet.now conditions Red self }
     {
@@ -168,7 +181,7 @@ impl Meter {
         }
     }
 
-    // The light's second, with the clock as it is.
+    // One second of the light; the clock stays.
     fn after_light(self, sheet: &Sheet, conditions: Conditions) -> Stage
         ensures { result ≡ light_step sheet.now conditions self.light self }
     {
@@ -180,7 +193,8 @@ impl Meter {
         }
     }
 
-    // A metering second: the reference clock first, then the light.
+    /// What one second makes of metering: first the reference clock, then the light. It may leave metering for closing
+    /// or draining. (docs/RULES.md, "Metering")
     pub fn after(self, sheet: &Sheet, conditions: Conditions) -> Stage
         ensures { result ≡ metered sheet.now conditions self }
     {

@@ -1,18 +1,21 @@
-// The queue on the ramp: for how long it has been full, and for how long cleared.
+// The queue on the ramp: for how long it has been full, and for how long cleared. (docs/RULES.md, "One second")
 ghost use Rattle.std.specs.Prelude.{◌≡◌, min, ◌&&◌, nat_le, nat_lt};
 ghost use Rattle.control.specs.Figures.{TO1, TO2};
 ghost use Rattle.control.specs.Seconds.{counted_to, queue_after};
 
 use sheet::Sheet;
 
-// For how many seconds the queue loop has been above the figure of a full queue, and below that of a cleared one.
+/// The two counts of the queue, at first 0. (docs/RULES.md, "One second")
 #[derive(Clone, Copy, Default)]
 pub struct Queue {
+    /// Over-count: the seconds in a row with a reading above TO1, t1 at most. At t1 the queue is full.
     pub over: u32,
+    /// Under-count: the seconds in a row with a reading below TO2, t2 at most. At t2 the queue is cleared. It starts
+    /// anew when draining begins.
     pub under: u32,
 }
 
-// A count with one more, to at most its limit, while its test holds; else 0.
+// The count with one more, to its limit at most, if its test holds; else 0.
 fn counted_to(most: u32, holds: bool, count: u32) -> u32
     ensures { result ≡ counted_to most holds count }
 {
@@ -23,15 +26,14 @@ fn counted_to(most: u32, holds: bool, count: u32) -> u32
     }
 }
 
-// Is the reading of the queue loop that of a full queue? Sheet and reading stay two values, as the one holds for the life of
-// a station and the other for one second.
+// Whether the reading of the queue loop, in busy milliseconds, is that of a full queue.
 fn is_full(sheet: &Sheet, reading: u32) -> bool
     ensures { result ≡ (nat_le reading 1000 && nat_lt (TO1 sheet.now) reading) }
 {
     reading <= 1_000 && reading > sheet.figures().queue_full
 }
 
-// Is it that of a cleared one?
+// Whether the reading of the queue loop, in busy milliseconds, is that of a cleared queue.
 fn is_cleared(sheet: &Sheet, reading: u32) -> bool
     ensures { result ≡ (nat_le reading 1000 && nat_lt reading (TO2 sheet.now)) }
 {
@@ -39,7 +41,8 @@ fn is_cleared(sheet: &Sheet, reading: u32) -> bool
 }
 
 impl Queue {
-    // The counts after a second with this reading of the queue loop.
+    /// The counts after a second in which the queue loop was busy for `reading` milliseconds; a reading above 1,000
+    /// makes both 0. (docs/RULES.md, "One second")
     pub fn after(self, sheet: &Sheet, reading: u32) -> Queue
         ensures { result ≡ queue_after sheet.now reading self }
     {

@@ -1,4 +1,4 @@
-// The lamps against the colour: when a station trips.
+// Trips: the lamps that are lit against the colour that is ordered. (docs/RULES.md, "One second")
 ghost use Rattle.std.specs.Prelude.{◌≡◌};
 ghost use Rattle.control.specs.Trips.{ordered_lamp, is_unwanted, lowest_unwanted, trip_with, trip_of};
 
@@ -6,7 +6,7 @@ use crate::answer::Trip;
 use lamps::{Colour, Lamp, LampSet};
 use records::TripCode;
 
-// The lamp that the colour orders.
+// The lamp that the colour orders; dark orders none.
 fn lamp_of(colour: Colour) -> Option<Lamp>
     ensures { result ≡ ordered_lamp colour }
 {
@@ -18,15 +18,14 @@ fn lamp_of(colour: Colour) -> Option<Lamp>
     }
 }
 
-// Is the lamp lit without being ordered? What is lit and what is ordered stay two values: one comes from the lamps, one from
-// the head, and nothing keeps them together.
+// Whether the lamp is lit without being ordered.
 fn is_unwanted(lit: LampSet, colour: Colour, lamp: Lamp) -> bool
     ensures { result ≡ is_unwanted lit colour lamp }
 {
     lit.contains(lamp) && !colour.lamps().contains(lamp)
 }
 
-// The lowest lamp that is lit without being ordered.
+// The lowest lamp that is lit without being ordered, if there is one; else flashing amber.
 fn lowest_unwanted(lit: LampSet, colour: Colour) -> Lamp
     ensures { result ≡ lowest_unwanted lit colour }
 {
@@ -39,7 +38,7 @@ fn lowest_unwanted(lit: LampSet, colour: Colour) -> Lamp
     }
 }
 
-// The ordered lamp if it is not lit, else the one that is lit without being ordered.
+// The trip of a set that is not the ordered one: by the ordered lamp if that is not lit, else by the unwanted one.
 fn trip_with(lit: LampSet, ordered: Option<Lamp>, unwanted: Lamp) -> Trip
     ensures { result ≡ trip_with lit ordered unwanted }
 {
@@ -55,7 +54,8 @@ fn trip_with(lit: LampSet, ordered: Option<Lamp>, unwanted: Lamp) -> Trip
     }
 }
 
-// The trip of a second in which these lamps are lit and this colour is ordered, if it trips.
+/// The trip of a second in which this set of lamps (a sum of lamp numbers, 0 to 7) is lit and this colour is ordered;
+/// none if the set is that of the colour. (docs/RULES.md, "One second" and "Records")
 pub fn trip_of(lit: LampSet, colour: Colour) -> Option<Trip>
     ensures { result ≡ trip_of lit colour }
 {
