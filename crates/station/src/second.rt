@@ -1,4 +1,4 @@
-// The parts of a second that take a branch, each as a function.
+// The parts of a station's second. (docs/RULES.md, "One second")
 ghost use Rattle.std.specs.Prelude.{◌≡◌, ◌||◌, if◌then◌else◌, None};
 ghost use Rattle.std.specs.Option.{option_map};
 ghost use Rattle.lamps.specs.Orders.{colour_after};
@@ -15,14 +15,16 @@ use records::{AlarmRecord, PeriodRecord, Phase, Ring, count_after};
 use sheet::Sheet;
 use strategy::{Measure, Strategy};
 
-// The trip of a second, unless the station is tripped already.
+/// The trip of a second in which this set of lamps is lit and this colour is ordered; none if the station is tripped
+/// already.
 pub(crate) fn trip_now(tripped: bool, lit: LampSet, colour: Colour) -> Option<Trip>
     ensures { result ≡ (if tripped then None else trip_of lit colour) }
 {
     if tripped { None } else { trip_of(lit, colour) }
 }
 
-// Tells the strategy what a period closed with, if one did, and gives the period's record.
+/// If a period closed, tells the strategy its measure or none and returns the period record, which has the strategy's
+/// cycle after that. `counts` are those before the second. (docs/RULES.md, "Records")
 pub(crate) fn tell_close<S: Strategy>(
     strategy: &mut S,
     closed: Option<Option<Measure>>,
@@ -30,7 +32,9 @@ pub(crate) fn tell_close<S: Strategy>(
     counts: Counts,
 ) -> Option<PeriodRecord>
     ensures told { strategy.new ≡ told_at S.Strategy strategy.old minute closed }
-    ensures record { result ≡ option_map (period_record_of minute (S.Strategy.cycle (told_at S.Strategy strategy.old minute closed)) counts) closed }
+    ensures record { result ≡ option_map
+        (period_record_of minute (S.Strategy.cycle (told_at S.Strategy strategy.old minute closed)) counts)
+        closed }
 {
     let measure = closed?;
     strategy.tell(minute, measure);
@@ -43,7 +47,8 @@ pub(crate) fn tell_close<S: Strategy>(
     })
 }
 
-// The alarm record of a trip, if there is one, with the phase before it.
+/// The alarm record of a trip, if there is one; `counts` and `phase` are those before the second.
+/// (docs/RULES.md, "Records")
 pub(crate) fn alarm_of(trip: Option<Trip>, counts: Counts, phase: Phase) -> Option<AlarmRecord>
     ensures { result ≡ option_map (alarm_record_of counts phase) trip }
 {
@@ -56,7 +61,7 @@ pub(crate) fn alarm_of(trip: Option<Trip>, counts: Counts, phase: Phase) -> Opti
     })
 }
 
-// Puts a record into its ring, if there is one.
+/// Puts the record into the ring, if there is one.
 pub(crate) fn put_some<T: Copy>(ring: &mut Ring<'_, T>, element: Option<T>)
     ensures { PutInto ring.old ring.new element }
 {
@@ -65,8 +70,8 @@ pub(crate) fn put_some<T: Copy>(ring: &mut Ring<'_, T>, element: Option<T>)
     }
 }
 
-// The length of a reference cycle that begins now: the centre's cycle if set, else the strategy's, which is asked only then.
-// It is 0 where none begins, and no Option: the conditions of a second have a length in any case, and nothing uses this one.
+/// The length in seconds of a reference cycle that begins in this second: the centre's cycle if set, else the
+/// strategy's; 0 where none begins. (docs/RULES.md, "Metering")
 pub(crate) fn length_fixed<S: Strategy>(
     begins: bool,
     centre_cycle: Option<u32>,
@@ -81,7 +86,7 @@ pub(crate) fn length_fixed<S: Strategy>(
     }
 }
 
-// The phase after a second, by whether it trips.
+/// The phase of a second that trips or does not, after one in phase `stage`.
 pub(crate) fn stage_after(trips: bool, stage: Stage, sheet: &Sheet, conditions: Conditions) -> Stage
     ensures { result ≡ (if trips then Tripped else stepped sheet.now conditions stage) }
 {
@@ -92,9 +97,12 @@ pub(crate) fn stage_after(trips: bool, stage: Stage, sheet: &Sheet, conditions: 
     }
 }
 
-// The head's second: a trip cuts it; a station that is not tripped orders its phase's colour.
+/// What a second does to the lamp head: a trip cuts it, a station tripped before leaves it, any other orders the colour
+/// of its phase.
 pub(crate) fn drive<H: LampHead>(head: &mut H, trips: bool, tripped: bool, chosen: Colour)
-    ensures colour { H.LampHead.colour head.new ≡ (if trips then Dark else (if tripped then H.LampHead.colour head.old else colour_after (H.LampHead.is_cut head.old) (H.LampHead.colour head.old) chosen)) }
+    ensures colour { H.LampHead.colour head.new ≡ (if trips then Dark else
+        (if tripped then H.LampHead.colour head.old else
+        colour_after (H.LampHead.is_cut head.old) (H.LampHead.colour head.old) chosen)) }
     ensures is_cut { H.LampHead.is_cut head.new ≡ (trips || H.LampHead.is_cut head.old) }
     ensures shows { H.LampHead.shows head.new ≡ H.LampHead.shows head.old }
 {
@@ -105,7 +113,7 @@ pub(crate) fn drive<H: LampHead>(head: &mut H, trips: bool, tripped: bool, chose
     }
 }
 
-// Whether metering is wanted after a second: a tripped station keeps what it was.
+/// Whether metering is wanted after a second: `wanted`, but what it was `before` if the station is tripped.
 pub(crate) fn wanted_kept(tripped: bool, before: bool, wanted: bool) -> bool
     ensures { result ≡ (if tripped then before else wanted) }
 {

@@ -25,23 +25,25 @@ use reply::{cycles_reply, status_reply};
 use sheet::{MinuteRange, Sheet};
 use strategy::Strategy;
 
-// Opening one uses an accepted sheet up. A second, a command line and a breaker reset are its acts.
+/// A ramp-metering station over any strategy and any lamp head. Its acts are seconds, command lines and breaker resets;
+/// the promises hold for every list of them. (docs/RULES.md, "Promises")
 #[derive(Drop)]
 pub struct Station<S, H> {
     sheet: Sheet,
     strategy: S,
     head: H,
+    // the loops: the running interval and period
     tally: PeriodTally,
+    // mode, wanted and centre's cycle
     command: Command,
     queue: Queue,
     counts: Counts,
     stage: Stage,
 }
 
-// The clauses `sheet` and `few` stand with each call that they hold of: no type says of a call that it leaves a field as it
-// was, or how large a number is that it answers.
 impl<S: Strategy, H: LampHead> Station<S, H> {
-    // Opens a station: standby, local mode, not wanted, no centre's cycle, the head restored and dark, all counts 0.
+    /// Opens a station and uses the accepted sheet up. It is in standby and local mode, not wanted, without a centre's
+    /// cycle; the head is restored and dark, all counts are 0. (docs/RULES.md, "Accepting a sheet")
     pub fn open(sheet: Sheet, strategy: S, mut head: H) -> Station<S, H>
         ensures sheet { result.sheet ≡ sheet }
         ensures stands { Stands result [] }
@@ -62,7 +64,8 @@ impl<S: Strategy, H: LampHead> Station<S, H> {
         }
     }
 
-    // One second. Puts a period record into the ring of periods where a period closes, and an alarm record into that of alarms where it trips.
+    /// One second; it never refuses. `minute` may be any number and is taken modulo 10,080. A close of a period puts a
+    /// record into `periods`, a trip one into `alarms`. (docs/RULES.md, "One second" and "Records")
     pub fn second(
         &mut self,
         field: Field<'_>,
@@ -72,8 +75,16 @@ impl<S: Strategy, H: LampHead> Station<S, H> {
         alarms: &mut Ring<'_, AlarmRecord>,
     ) -> Answer
         ensures sheet { self.new.sheet ≡ self.old.sheet }
-        ensures done { (ss : List Readings) → Stands self.old ss → SecondDone S.Strategy H.LampHead self.old ss (given_by field.entry.presence field.entry.queue_ms field.entry.word minute calendar.now field.entry.lanes.now) self.new result periods.old periods.new alarms.old alarms.new }
-        ensures lived { GoesOn S.Strategy H.LampHead self.old self.new (SecondAct (given_by field.entry.presence field.entry.queue_ms field.entry.word minute calendar.now field.entry.lanes.now) result (H.LampHead.colour self.new.head)) }
+        ensures done { (ss : List Readings) → Stands self.old ss →
+            SecondDone S.Strategy H.LampHead self.old ss
+            (given_by field.entry.presence field.entry.queue_ms field.entry.word
+            minute calendar.now field.entry.lanes.now)
+            self.new result periods.old periods.new alarms.old alarms.new }
+        ensures lived { GoesOn S.Strategy H.LampHead self.old self.new
+            (SecondAct
+            (given_by field.entry.presence field.entry.queue_ms field.entry.word
+            minute calendar.now field.entry.lanes.now)
+            result (H.LampHead.colour self.new.head)) }
     {
         let minute = minute % 10_080;
         let before = self.stage;
@@ -118,12 +129,15 @@ impl<S: Strategy, H: LampHead> Station<S, H> {
         }
     }
 
-    // A command line. Its answer goes into the buffer, and the number of its bytes comes back: 0 for an order, some for a status reading, never more
-    // than 34.
+    /// A command line. A status reading writes its answer to the front of the buffer and returns its bytes, 34 at most;
+    /// the other lines write nothing and return 0. Refusals 4 to 9 and 11 alter neither station nor buffer; a buffer of
+    /// 34 bytes is never too short. (docs/RULES.md, "Command lines" and "Refusals")
     pub fn line(&mut self, line: &[u8], buffer: &mut [u8]) -> Result<usize, Refused>
         ensures sheet { self.new.sheet ≡ self.old.sheet }
         ensures done { LineDone S.Strategy H.LampHead self.old line.now buffer.old self.new buffer.new result }
-        ensures lived { GoesOn S.Strategy H.LampHead self.old self.new (LineAct line.now buffer.old buffer.new (replied result buffer.new) (H.LampHead.colour self.new.head)) }
+        ensures lived { GoesOn S.Strategy H.LampHead self.old self.new
+            (LineAct line.now buffer.old buffer.new (replied result buffer.new)
+            (H.LampHead.colour self.new.head)) }
         ensures few { IfOk result (λ n. n ≤ 34) }
     {
         let (order, bytes) = self.answer_line(line, buffer)?;
@@ -131,11 +145,14 @@ impl<S: Strategy, H: LampHead> Station<S, H> {
         Ok(bytes)
     }
 
-    // A breaker reset: restores the head, and gives standby, local mode, not wanted and no centre's cycle. Refused when the station is not tripped.
+    /// A breaker reset: restores the head and gives standby, local mode, not wanted and no centre's cycle. All else
+    /// stays, the counts too, but for the seconds shown since standby. A station that is not tripped refuses it with
+    /// `NotTripped` and is not altered. (docs/RULES.md, "The breaker" and "Where rules left room")
     pub fn reset(&mut self) -> Result<(), Refused>
         ensures sheet { self.new.sheet ≡ self.old.sheet }
         ensures done { ResetDone S.Strategy H.LampHead self.old self.new result }
-        ensures lived { GoesOn S.Strategy H.LampHead self.old self.new (ResetAct result (H.LampHead.colour self.new.head)) }
+        ensures lived { GoesOn S.Strategy H.LampHead self.old self.new
+            (ResetAct result (H.LampHead.colour self.new.head)) }
     {
         if !self.stage.is_tripped() {
             return Err(Refused::NotTripped);
@@ -147,10 +164,12 @@ impl<S: Strategy, H: LampHead> Station<S, H> {
         Ok(())
     }
 
-    // What is seen of the station. Of every history that it lived: the run law, and that what is seen is what the log of that history has.
+    /// What is seen of the station. The contract has the promises over runs for every history that the station lived,
+    /// and that what is seen is what the log of that history has. (docs/RULES.md, "Promises")
     pub fn look(&self) -> View
         ensures view { result ≡ view_of H.LampHead self.now }
-        ensures looked { (s : S) (h : History) → Lived S.Strategy H.LampHead self.now s h → Looked S.Strategy H.LampHead self.now result s h }
+        ensures looked { (s : S) (h : History) → Lived S.Strategy H.LampHead self.now s h →
+            Looked S.Strategy H.LampHead self.now result s h }
     {
         View {
             seconds: self.counts.seconds,
@@ -164,10 +183,12 @@ impl<S: Strategy, H: LampHead> Station<S, H> {
 }
 
 impl<S, H> Station<S, H> {
-    // Writes the reply to an order: nothing, but for the status readings.
+    // Writes the reply to an order and returns its bytes; only status readings have one.
     fn reply_to(&self, order: Order, buffer: &mut [u8]) -> Result<usize, Refused>
-        ensures count { result ≡ bytes_of (fitted (length buffer.old) (reply_of self.now.sheet self.now.stage order)) }
-        ensures bytes { buffer.new ≡ buffer_after (fitted (length buffer.old) (reply_of self.now.sheet self.now.stage order)) buffer.old }
+        ensures count { result ≡
+            bytes_of (fitted (length buffer.old) (reply_of self.now.sheet self.now.stage order)) }
+        ensures bytes { buffer.new ≡
+            buffer_after (fitted (length buffer.old) (reply_of self.now.sheet self.now.stage order)) buffer.old }
         ensures few { IfOk result (λ n. n ≤ 34) }
     {
         match order {
@@ -180,24 +201,34 @@ impl<S, H> Station<S, H> {
         }
     }
 
-    // Answers an order, or says why it is refused.
+    // Writes the reply to an order that is taken and returns its bytes, or says why the order is refused.
     fn answer_order(&self, order: Order, buffer: &mut [u8]) -> Result<usize, Refused>
-        ensures count { result ≡ bytes_of (answered_by (length buffer.old) (refused_by (is_tripped self.now.stage) self.now.command.mode order) (reply_of self.now.sheet self.now.stage order)) }
-        ensures bytes { buffer.new ≡ buffer_after (answered_by (length buffer.old) (refused_by (is_tripped self.now.stage) self.now.command.mode order) (reply_of self.now.sheet self.now.stage order)) buffer.old }
+        ensures count { result ≡ bytes_of (answered_by (length buffer.old)
+            (refused_by (is_tripped self.now.stage) self.now.command.mode order)
+            (reply_of self.now.sheet self.now.stage order)) }
+        ensures bytes { buffer.new ≡ buffer_after (answered_by (length buffer.old)
+            (refused_by (is_tripped self.now.stage) self.now.command.mode order)
+            (reply_of self.now.sheet self.now.stage order)) buffer.old }
         ensures few { IfOk result (λ n. n ≤ 34) }
     {
         check_order(self.stage.is_tripped(), self.command.mode, order)?;
         self.reply_to(order, buffer)
     }
 
-    // Reads a line and answers it: the order to be obeyed with the bytes of its answer, or why the line is refused.
+    /// Reads a line and writes its reply: returns the order that is still to be obeyed, with the bytes of the reply, or
+    /// why the line is refused.
     pub(crate) fn answer_line(
         &self,
         line: &[u8],
         buffer: &mut [u8],
     ) -> Result<(Order, usize), Refused>
-        ensures taken { result ≡ taken_with (order_of line.now) (answer_to self.now.sheet self.now.stage self.now.command.mode (length buffer.old) (order_of line.now)) }
-        ensures bytes { buffer.new ≡ buffer_after (answer_to self.now.sheet self.now.stage self.now.command.mode (length buffer.old) (order_of line.now)) buffer.old }
+        ensures taken { result ≡ taken_with (order_of line.now)
+            (answer_to self.now.sheet self.now.stage self.now.command.mode
+            (length buffer.old) (order_of line.now)) }
+        ensures bytes { buffer.new ≡ buffer_after
+            (answer_to self.now.sheet self.now.stage self.now.command.mode
+            (length buffer.old) (order_of line.now))
+            buffer.old }
         ensures few { IfOk result (λ taken. taken.1 ≤ 34) }
     {
         let order = read_order(line)?;
@@ -207,7 +238,8 @@ impl<S, H> Station<S, H> {
 }
 
 impl<S, H: LampWords> Station<S, H> {
-    // A lamp word that stands for exactly the lamps of the colour that the head means: with it a second does not trip.
+    /// A lamp word that stands for exactly the lamps of the colour that the head means: a second given this word does
+    /// not trip. (docs/RULES.md, "Lamp heads")
     pub fn lit_word(&self) -> u32
         ensures { H.LampHead.shows self.now.head result ≡ lamps_of (H.LampHead.colour self.now.head) }
     {
