@@ -1,4 +1,4 @@
-// What is proved of every history of a station, and worked figures that are proved of the rules.
+// Theorems, each the contract of a function that does nothing when called.
 ghost use Rattle.sheet.specs.declared.sheet.Sheet.{Sheet};
 ghost use Rattle.control.specs.Model.{Model, Given};
 ghost use Rattle.runlaw.specs.RunLaw.{LawHolds};
@@ -8,22 +8,24 @@ ghost use Rattle.runlaw.specs.Steps.{WorkedSteps};
 
 use strategy::Strategy;
 
-// The run law holds of every history of every station, whatever its sheet and its strategy.
+/// The promises hold of every history of a station by the rules, whatever its sheet and its strategy.
+/// (docs/RULES.md, "Promises")
 pub fn run_law_stands<S: Strategy>()
     ensures { (f : Sheet) (s : S) → LawHolds S.Strategy f s }
 {}
 
-// The records of every second, and what a tripped station keeps, are as they must be beside the station behind the second.
+/// The records that a second puts agree with the station after it and with the second's answer, and a tripped station
+/// keeps phase, mode, wanted, centre's cycle and colour. (docs/RULES.md, "Records" and "The breaker")
 pub fn record_laws_hold<S: Strategy>()
     ensures { (f : Sheet) (m : Model S) (g : Given) → RecordLaws S.Strategy f m g }
 {}
 
-// The worked figures hold together.
+/// The rules come to the eight worked figures. (docs/RULES.md, "Worked figures")
 pub fn worked_figures_hold()
     ensures { WorkedFigures }
 {}
 
-// So do those of a second, of what it stands on, and of what lines and resets answer.
+/// The rules come to the worked figures of single rules. (docs/RULES.md, "Worked figures of single rules")
 pub fn worked_steps_hold()
     ensures { WorkedSteps }
 {}
