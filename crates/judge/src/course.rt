@@ -1,4 +1,4 @@
-// The course of a run: what the law reads of its log.
+// The course of a run: what the run law goes by in each second of its log.
 ghost use Rattle.std.specs.Prelude.{◌≡◌, ◌<◌, not, ◌&&◌, ◌||◌, [], ◌∷◌, Decides, length};
 ghost use Rattle.runlaw.specs.Log.{Log, Row, in_metering, row};
 ghost use Rattle.runlaw.specs.RunLaw.{Darkness, is_red};
@@ -16,30 +16,32 @@ use lamps::Colour;
 use records::{Phase, count_after};
 use sheet::Sheet;
 
-// What a second showed, whether it tripped, and whether a vehicle stood at the line.
+/// What a log and its plan tell of a second.
 #[derive(Clone, Copy)]
 pub(crate) struct Shown {
     pub(crate) aspect: Aspect,
+    /// Whether the second tripped the station.
     pub(crate) trips: bool,
+    /// Whether a vehicle stood at the line.
     pub(crate) presence: bool,
 }
 
 impl Shown {
-    // Is it a metering second, where the second before showed that: no trip, and phase metering in one of the two?
+    // Whether it is a metering second: no trip, and phase metering in it or in the second before.
     fn is_metering(self, before: Aspect) -> bool
         ensures { result ≡ (not self.trips && (in_metering self.aspect.phase || in_metering before.phase)) }
     {
         !self.trips && (self.aspect.is_metering() || before.is_metering())
     }
 
-    // Is it a second of a wait?
+    // Whether it is a second of a wait: metered red with a vehicle at the line.
     fn is_of_wait(self) -> bool
         ensures { result ≡ (is_red self.aspect.colour && in_metering self.aspect.phase && self.presence) }
     {
         self.aspect.is_metered_red() && self.presence
     }
 
-    // Does a trip stand after it: its own, or one that stood before and that no breaker reset has ended?
+    // Whether a trip stands after it: its own, or one that stood before and that no breaker reset has ended.
     fn leaves_trip(self, reset: bool, stood: bool) -> bool
         ensures { result ≡ (self.trips || (not reset && stood)) }
     {
@@ -47,8 +49,7 @@ impl Shown {
     }
 }
 
-// The newest second's aspect and reference clock; the stretch, the spell and the wait that end with it; whether a trip stands; and the
-// number of the seconds.
+/// What the run law goes by after the newest second.
 #[derive(Clone, Copy)]
 pub(crate) struct Course {
     pub(crate) aspect: Aspect,
@@ -56,12 +57,14 @@ pub(crate) struct Course {
     pub(crate) stretch: Stretch,
     pub(crate) spell: Spell,
     pub(crate) wait: Wait,
+    /// Whether there was a trip that no breaker reset had ended by the newest second.
     pub(crate) trip_stands: bool,
+    /// The number of the newest second, 0 before the first.
     pub(crate) seconds: u32,
 }
 
 impl Course {
-    // The course before the first second.
+    /// The course before the first second: dark and standby, as a fresh station is.
     pub(crate) fn new() -> Course
         ensures { result ≡ course_of [] }
     {
@@ -79,9 +82,12 @@ impl Course {
         }
     }
 
-    // The course after one second more: was a breaker reset taken since the one before, and which reference cycle would begin in it?
+    /// The course after one second more, where `reset` says that a breaker reset was taken since the second before, and
+    /// `next_cycle` is the length in seconds of a reference cycle that begins in it.
     pub(crate) fn after(self, shown: Shown, reset: bool, next_cycle: u32) -> Course
-        ensures { (rs : Log) → length rs < 4294967295 → self ≡ course_of rs → result ≡ course_of (row shown.aspect.colour shown.aspect.phase shown.trips shown.presence reset next_cycle rs ∷ rs) }
+        ensures { (rs : Log) → length rs < 4294967295 → self ≡ course_of rs →
+            result ≡ course_of
+            (row shown.aspect.colour shown.aspect.phase shown.trips shown.presence reset next_cycle rs ∷ rs) }
     {
         let aspect = shown.aspect;
         let metering = shown.is_metering(self.aspect);
@@ -99,16 +105,18 @@ impl Course {
         }
     }
 
-    // Is it dark, if a trip stands?
+    // Whether the newest second is dark, if a trip stands; else true.
     fn is_dark_if_tripped(self) -> bool
         ensures { (rs : Log) → self ≡ course_of rs → Decides result (Darkness rs) }
     {
         !self.trip_stands || is_dark(self.aspect.colour)
     }
 
-    // Which parts of the law the newest second keeps, with this course before it.
+    /// Which parts of the run law the newest second keeps; `before` is the course before it, and `trips` says that it
+    /// trips. (docs/RULES.md, "Promises")
     pub(crate) fn kept(self, before: Course, sheet: &Sheet, trips: bool) -> Kept
-        ensures { (r : Row) (rs : Log) → r.trip ≡ trips → before ≡ course_of rs → self ≡ course_of (r ∷ rs) → Keeps sheet.now result (r ∷ rs) }
+        ensures { (r : Row) (rs : Log) → r.trip ≡ trips → before ≡ course_of rs →
+            self ≡ course_of (r ∷ rs) → Keeps sheet.now result (r ∷ rs) }
     {
         let succession = before
             .stretch

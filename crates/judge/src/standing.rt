@@ -1,4 +1,4 @@
-// How a station stands between two seconds, and what it is due to answer to lines and breaker resets.
+// What a station is due to answer to command lines and breaker resets. (docs/TRIAL.md, "Judging a recorded log")
 ghost use Rattle.std.specs.Prelude.{◌≡◌, ◌≤◌, length, IfOk};
 ghost use Rattle.control.specs.Lines.{fitted, refused_by, answered_by, bytes_of, buffer_after};
 ghost use Rattle.orders.specs.Orders.{order_of};
@@ -10,17 +10,18 @@ use records::Phase;
 use reply::{cycles_reply, status_reply};
 use sheet::Sheet;
 
-// Whether it is tripped, its mode, its phase, and the running reference cycle, 0 outside metering.
+/// How a station stands between two acts, as plan and log have it.
 #[derive(Clone, Copy)]
 pub(crate) struct Standing {
     pub(crate) is_tripped: bool,
     pub(crate) mode: Mode,
     pub(crate) phase: Phase,
+    /// The length of the running reference cycle in seconds, 0 outside metering.
     pub(crate) cycle: u32,
 }
 
 impl Standing {
-    // The letter of the status reading: V standby, H tripped, S else.
+    // The letter that line `P` is due to answer: `V` in standby, `H` when tripped, else `S`.
     fn letter(self) -> u8
         ensures { result ≡ letter_of self.phase }
     {
@@ -31,10 +32,11 @@ impl Standing {
         }
     }
 
-    // Writes the reply that is due to an order: nothing, but for the status readings.
+    // Writes the reply that is due to an order and returns its bytes; only status readings have one.
     fn reply_to(self, sheet: &Sheet, order: Order, buffer: &mut [u8]) -> Result<usize, Refused>
         ensures count { result ≡ bytes_of (fitted (length buffer.old) (reply_due sheet.now self order)) }
-        ensures bytes { buffer.new ≡ buffer_after (fitted (length buffer.old) (reply_due sheet.now self order)) buffer.old }
+        ensures bytes { buffer.new ≡
+            buffer_after (fitted (length buffer.old) (reply_due sheet.now self order)) buffer.old }
         ensures few { IfOk result (λ n. n ≤ 34) }
     {
         match order {
@@ -44,17 +46,20 @@ impl Standing {
         }
     }
 
-    // Answers an order as it is due, or says why it is to be refused.
+    // Writes the reply that is due to an order and returns its bytes, or says why the order is to be refused.
     fn answer_order(self, sheet: &Sheet, order: Order, buffer: &mut [u8]) -> Result<usize, Refused>
-        ensures count { result ≡ bytes_of (answered_by (length buffer.old) (refused_by self.is_tripped self.mode order) (reply_due sheet.now self order)) }
-        ensures bytes { buffer.new ≡ buffer_after (answered_by (length buffer.old) (refused_by self.is_tripped self.mode order) (reply_due sheet.now self order)) buffer.old }
+        ensures count { result ≡ bytes_of (answered_by (length buffer.old)
+            (refused_by self.is_tripped self.mode order) (reply_due sheet.now self order)) }
+        ensures bytes { buffer.new ≡ buffer_after (answered_by (length buffer.old)
+            (refused_by self.is_tripped self.mode order) (reply_due sheet.now self order))
+            buffer.old }
         ensures few { IfOk result (λ n. n ≤ 34) }
     {
         check_order(self.is_tripped, self.mode, order)?;
         self.reply_to(sheet, order, buffer)
     }
 
-    // Reads a line and answers it as it is due.
+    /// Reads a line, writes the reply that is due and returns its bytes, or says why the line is to be refused.
     pub(crate) fn answer_line(
         self,
         sheet: &Sheet,
@@ -62,14 +67,15 @@ impl Standing {
         buffer: &mut [u8],
     ) -> Result<usize, Refused>
         ensures count { result ≡ bytes_of (answer_due sheet.now self (length buffer.old) (order_of line.now)) }
-        ensures bytes { buffer.new ≡ buffer_after (answer_due sheet.now self (length buffer.old) (order_of line.now)) buffer.old }
+        ensures bytes { buffer.new ≡
+            buffer_after (answer_due sheet.now self (length buffer.old) (order_of line.now)) buffer.old }
         ensures few { IfOk result (λ n. n ≤ 34) }
     {
         let order = read_order(line)?;
         self.answer_order(sheet, order, buffer)
     }
 
-    // Takes a breaker reset, or says why it is to be refused.
+    /// Whether a breaker reset is to be taken: a station that is not tripped refuses it with `NotTripped`.
     pub(crate) fn answer_reset(self) -> Result<(), Refused>
         ensures { result ≡ reset_answer_due self }
     {

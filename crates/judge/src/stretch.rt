@@ -1,4 +1,4 @@
-// The newest stretch of one colour, and what may follow it.
+// The succession of colours. (docs/RULES.md, "Succession")
 ghost use Rattle.std.specs.Prelude.{◌≡◌, ◌<◌, ◌≤◌, cond, ◌∷◌, Decides, length};
 ghost use Rattle.control.specs.Figures.{T2, JF, RM};
 ghost use Rattle.runlaw.specs.Log.{Log, Row};
@@ -10,21 +10,25 @@ use lamps::Colour;
 use records::count_after;
 use sheet::Sheet;
 
-// The seconds of an amber that no window flash came before.
+// The length in seconds of a fixed amber that does not follow a window flash.
 const OPENING_AMBER: u32 = 5;
 
-// The seconds up to the newest that share its colour, and whether the second right before them was of a window flash, or of a window amber.
+/// The stretch of one colour that ends with the newest second.
 #[derive(Clone, Copy, Default)]
 pub(crate) struct Stretch {
+    /// Its seconds so far.
     pub(crate) length: u32,
+    /// Whether the second right before it is of a window flash.
     pub(crate) after_flash: bool,
+    /// Whether the second right before it is of a window amber.
     pub(crate) after_amber: bool,
 }
 
 impl Stretch {
-    // The stretch after one second more of this colour, where the second before showed that.
+    /// The stretch after one second more, of this colour; `before` is the aspect of the second before.
     pub(crate) fn after(self, before: Aspect, colour: Colour) -> Stretch
-        ensures { (r : Row) (rs : Log) → length rs < 4294967295 → r.colour ≡ colour → before ≡ aspect_of rs → self ≡ stretch_of rs → result ≡ stretch_of (r ∷ rs) }
+        ensures { (r : Row) (rs : Log) → length rs < 4294967295 → r.colour ≡ colour →
+            before ≡ aspect_of rs → self ≡ stretch_of rs → result ≡ stretch_of (r ∷ rs) }
     {
         if is_same(colour, before.colour) {
             Stretch {
@@ -40,7 +44,7 @@ impl Stretch {
         }
     }
 
-    // Has fixed amber lasted as it must: the window's, right after a window flash, or else an opening's?
+    // Whether this fixed amber has lasted exactly as long as it must: JF after a window flash, else 5 seconds.
     fn is_whole_amber(self, sheet: &Sheet) -> bool
         ensures { Decides result (self.length ≡ cond self.after_flash (JF sheet.now) 5) }
     {
@@ -52,7 +56,7 @@ impl Stretch {
         self.length == seconds
     }
 
-    // Is red as old as it must be: the minimum, right after a window amber, or else an opening's?
+    // Whether this red has lasted as long as it must: RM after a window amber, else T2, or longer.
     fn is_old_red(self, sheet: &Sheet) -> bool
         ensures { Decides result (cond self.after_amber (RM sheet.now) (T2 sheet.now) ≤ self.length) }
     {
@@ -64,7 +68,8 @@ impl Stretch {
         least <= self.length
     }
 
-    // May a second of the colour `now` follow this stretch of the colour `before`?
+    /// Whether a second of the colour `now` may follow this stretch, which has the colour `before`; `trips` says that
+    /// the second trips. (docs/RULES.md, "Succession")
     pub(crate) fn may_precede(self, sheet: &Sheet, before: Colour, now: Colour, trips: bool) -> bool
         ensures { Decides result (MayFollow sheet.now trips self.length self.after_flash self.after_amber before now) }
     {

@@ -1,23 +1,24 @@
-// The verdict on a run: for each part of the run law the second at which it was first broken.
+// The verdict on a run. (docs/RULES.md, "Promises")
 ghost use Rattle.std.specs.Prelude.{◌≡◌, ◌&&◌, ◌∷◌, [], is_none, length};
 ghost use Rattle.sheet.specs.declared.sheet.Sheet.{Sheet};
 ghost use Rattle.runlaw.specs.Log.{Log, Row};
 ghost use Rattle.judge.specs.Breach.{Keeps, Told, breach_with};
 
-// The number of the second, from 1, at which each part was first broken, if it was.
+/// For each part of the run law the number of the second, from 1, in which it was first broken; none where it is kept.
+/// (docs/RULES.md, "Promises")
 #[derive(Clone, Copy, Debug, Default, PartialEq, Eq)]
 pub struct Verdict {
-    // The succession of the colours.
+    /// Succession: a colour followed another against the table, or too early or too late.
     pub succession: Option<u32>,
-    // Darkness from a trip to a breaker reset.
+    /// Succession after a trip: a second was not dark before a breaker reset was taken.
     pub darkness: Option<u32>,
-    // No more openings than reference cycles.
+    /// Openings: a spell had more openings than reference cycles begun.
     pub openings: Option<u32>,
-    // The length of the waits.
+    /// Waits: a vehicle waited too long at metered red.
     pub waits: Option<u32>,
 }
 
-// Which parts of the law a second keeps.
+/// Which parts of the run law a second keeps.
 #[derive(Clone, Copy)]
 pub(crate) struct Kept {
     pub(crate) succession: bool,
@@ -26,7 +27,7 @@ pub(crate) struct Kept {
     pub(crate) waits: bool,
 }
 
-// The first breach after one second more: an earlier one stays, and else this second is one if it does not keep the part.
+// The first breach of a part after one second more: an earlier one stays, else it is this second if that breaks it.
 fn breach_with(earlier: Option<u32>, kept: bool, second: u32) -> Option<u32>
     ensures { result ≡ breach_with earlier kept second }
 {
@@ -34,16 +35,17 @@ fn breach_with(earlier: Option<u32>, kept: bool, second: u32) -> Option<u32>
 }
 
 impl Verdict {
-    // The verdict before the first second: nothing is broken.
+    /// The verdict before the first second: nothing is broken.
     pub(crate) fn new() -> Verdict
         ensures { (f : Sheet) → Told f result [] }
     {
         Verdict::default()
     }
 
-    // The verdict after one second more, which has this number and keeps these parts.
+    /// The verdict after one second more, which has this number and keeps these parts.
     pub(crate) fn after(self, kept: Kept, second: u32) -> Verdict
-        ensures { (f : Sheet) (r : Row) (rs : Log) → second ≡ length (r ∷ rs) → Keeps f kept (r ∷ rs) → Told f self rs → Told f result (r ∷ rs) }
+        ensures { (f : Sheet) (r : Row) (rs : Log) → second ≡ length (r ∷ rs) → Keeps f kept (r ∷ rs) →
+            Told f self rs → Told f result (r ∷ rs) }
     {
         Verdict {
             succession: breach_with(self.succession, kept.succession, second),
@@ -53,9 +55,10 @@ impl Verdict {
         }
     }
 
-    // Is no part broken?
+    /// Whether no part of the run law is broken.
     pub fn is_clean(self) -> bool
-        ensures { result ≡ (is_none self.succession && is_none self.darkness && is_none self.openings && is_none self.waits) }
+        ensures { result ≡ (is_none self.succession && is_none self.darkness &&
+            is_none self.openings && is_none self.waits) }
     {
         self.succession.is_none()
             && self.darkness.is_none()
