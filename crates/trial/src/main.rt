@@ -1,28 +1,25 @@
 // trial: plays a plan, and writes its log, holds or judges a recorded log of it, or draws the run.
 #![tactic(auto)]
 
+mod comparison;
 mod frame;
-mod held;
-mod judged;
-mod logged;
+mod judging;
+mod lines;
+mod log_writer;
 mod picture;
-mod played;
-mod reading;
-mod recorded;
+mod playing;
 mod rows;
 mod stop;
 mod strip;
-mod told;
-mod watch;
-mod written;
+mod watching;
 
-use crate::held::Held;
-use crate::judged::Judging;
-use crate::logged::Log;
+use crate::comparison::Comparison;
+use crate::judging::{Judging, judge_plan};
+use crate::log_writer::LogWriter;
 use crate::picture::Picture;
-use crate::played::Playing;
-use crate::reading::{Plan, Purpose};
+use crate::playing::Plan;
 use crate::stop::{Stop, USAGE};
+use crate::watching::play_watched;
 use std::env;
 use std::fs::File;
 use std::io::{BufWriter, Read, Write};
@@ -35,8 +32,8 @@ fn open(rt: &HostRuntime, path: String) -> Result<File, Stop> {
 
 // Plays the plan that is read from here, and writes its log. What was written before a fault stays written.
 fn run<R: Read + Drop>(rt: &HostRuntime, from: R, needed: bool) -> Result<(), Stop> {
-    let log = Log(BufWriter::new(rt.alloc(), rt.stdout())?);
-    Plan::new(rt.alloc(), from)?.play_for(Playing(log), needed)
+    let log = LogWriter(BufWriter::new(rt.alloc(), rt.stdout())?);
+    play_watched(Plan::new(rt.alloc(), from)?, log, needed)
 }
 
 // Plays a plan, and holds a recorded log against it.
@@ -44,8 +41,8 @@ fn hold(rt: &HostRuntime, plan: String, log: String) -> Result<(), Stop> {
     let plan = open(rt, plan)?;
     let log = open(rt, log)?;
     let out = BufWriter::new(rt.alloc(), rt.stdout())?;
-    let held = Held::new(rt.alloc(), log, out)?;
-    Plan::new(rt.alloc(), plan)?.play_for(Playing(held), false)
+    let comparison = Comparison::new(rt.alloc(), log, out)?;
+    play_watched(Plan::new(rt.alloc(), plan)?, comparison, false)
 }
 
 // Judges a recorded log of a plan.
@@ -54,7 +51,7 @@ fn judge(rt: &HostRuntime, plan: String, log: String) -> Result<(), Stop> {
     let log = open(rt, log)?;
     let out = BufWriter::new(rt.alloc(), rt.stdout())?;
     let judging = Judging::new(rt.alloc(), log, out)?;
-    Plan::new(rt.alloc(), plan)?.play_for(judging, false)
+    judge_plan(Plan::new(rt.alloc(), plan)?, judging)
 }
 
 // Plays a plan, and draws the run.
@@ -62,7 +59,7 @@ fn draw(rt: &HostRuntime, plan: String) -> Result<(), Stop> {
     let plan = open(rt, plan)?;
     let out = BufWriter::new(rt.alloc(), rt.stdout())?;
     let picture = Picture::new(rt.alloc(), out);
-    Plan::new(rt.alloc(), plan)?.play_for(Playing(picture), false)
+    play_watched(Plan::new(rt.alloc(), plan)?, picture, false)
 }
 
 // Writes how the program is used.

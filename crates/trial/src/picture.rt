@@ -2,7 +2,7 @@
 use crate::frame::{frame_end, frame_start};
 use crate::stop::Stop;
 use crate::strip::{Line, Strip};
-use crate::watch::Watch;
+use crate::watching::Watch;
 use lamps::Colour;
 use observer::Totals;
 use replay::{Act, Answered, Outcome, SecondAct, SecondOutcome};

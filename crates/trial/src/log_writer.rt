@@ -1,14 +1,16 @@
-// Writing the rows of the log.
+// The log of a plan that is played.
 ghost use Rattle.std.specs.Prelude.{◌≡◌};
 ghost use Rattle.trial.specs.Written.{row_of};
 
+use crate::stop::Stop;
+use crate::watching::Watch;
 use control::Refused;
 use log_rows::{
     AlarmRow, Closing, LineRefused, LineTaken, PeriodRow, ResetRefused, ResetTaken, SecondRow,
     SheetRefused,
 };
 use observer::Totals;
-use replay::{Answered, Outcome, Reply, SecondOutcome};
+use replay::{Act, Answered, Outcome, Reply, SecondOutcome};
 use sheet::Refusal;
 use station::View;
 use std::io::{self, Write};
@@ -52,7 +54,7 @@ fn write_reset<W: Write>(out: &mut W, answer: &Result<(), Refused>) -> io::Resul
     }
 }
 
-// The rows of an act.
+/// The rows of an act.
 pub(crate) fn write_answered<W: Write>(out: &mut W, answered: &Answered) -> io::Result<()> {
     match &answered.outcome {
         Outcome::Second(outcome) => write_second(out, outcome, answered.view),
@@ -61,12 +63,34 @@ pub(crate) fn write_answered<W: Write>(out: &mut W, answered: &Answered) -> io::
     }
 }
 
-// The closing row of a run with these totals.
+/// The closing row of a run with these totals.
 pub(crate) fn write_closing<W: Write>(out: &mut W, totals: Totals) -> io::Result<()> {
     writeln!(out, "{}", Closing(totals))
 }
 
-// The row of a refused sheet.
+/// The row of a refused sheet.
 pub(crate) fn write_refused<W: Write>(out: &mut W, refusal: Refusal) -> io::Result<()> {
     writeln!(out, "{}", SheetRefused(refusal))
+}
+
+/// Writes the log here, row by row (docs/TRIAL.md).
+#[derive(Drop)]
+pub(crate) struct LogWriter<W>(pub(crate) W);
+
+impl<W: Write> Watch for LogWriter<W> {
+    fn answered(&mut self, _act: &Act<'_>, answered: &Answered) -> Result<(), Stop> {
+        Ok(write_answered(&mut self.0, answered)?)
+    }
+
+    fn closed(&mut self, totals: Totals) -> Result<(), Stop> {
+        Ok(write_closing(&mut self.0, totals)?)
+    }
+
+    fn refused(&mut self, refusal: Refusal) -> Result<(), Stop> {
+        Ok(write_refused(&mut self.0, refusal)?)
+    }
+
+    fn flush(&mut self) -> Result<(), Stop> {
+        Ok(self.0.flush()?)
+    }
 }

@@ -1,8 +1,8 @@
 // A recorded log, held against the log of a plan that is played.
-use crate::recorded::RecordedLog;
+use crate::lines::{Lines, turns};
+use crate::log_writer::{write_answered, write_closing, write_refused};
 use crate::stop::Stop;
-use crate::watch::Watch;
-use crate::written::{write_answered, write_closing, write_refused};
+use crate::watching::Watch;
 use hold::{Pair, Tally};
 use observer::Totals;
 use replay::{Act, Answered};
@@ -13,10 +13,11 @@ use std::io::{Read, Write};
 // How many differences are told, at most.
 const MOST_TOLD: u64 = 10;
 
-// The recorded log from here on, the rows that are expected next, the tally of both so far, and where differences are told.
+/// The recorded log from here on, the rows that are expected next, the tally of both so far, and where differences
+/// are written.
 #[derive(Drop)]
-pub(crate) struct Held<L, W> {
-    recorded: RecordedLog<L>,
+pub(crate) struct Comparison<L, W> {
+    recorded: Lines<L>,
     expected: Vec<u8>,
     tally: Tally,
     out: W,
@@ -49,11 +50,11 @@ fn tallied<W: Write>(out: &mut W, tally: Tally, pair: Pair<'_>) -> Result<Tally,
     Ok(tally.with(pair))
 }
 
-impl<L: Read + Drop, W: Write + Drop> Held<L, W> {
-    // The recorded log that is read from here.
-    pub(crate) fn new(heap: Global, recorded: L, out: W) -> Result<Held<L, W>, Stop> {
-        Ok(Held {
-            recorded: RecordedLog::new(heap, recorded)?,
+impl<L: Read + Drop, W: Write + Drop> Comparison<L, W> {
+    /// The recorded log that is read from here.
+    pub(crate) fn new(heap: Global, recorded: L, out: W) -> Result<Comparison<L, W>, Stop> {
+        Ok(Comparison {
+            recorded: Lines::new(heap, recorded)?,
             expected: Vec::new(heap),
             tally: Tally::new(),
             out,
@@ -78,8 +79,7 @@ impl<L: Read + Drop, W: Write + Drop> Held<L, W> {
 
     // Holds what is left of the recorded log against nothing.
     fn hold_rest(&mut self) -> Result<(), Stop> {
-        // A count, since a `while let` owes a measure that falls, and no contract says that input ends.
-        for _ in 0..u64::MAX {
+        for _ in turns() {
             if !self.recorded.advance()? {
                 break;
             }
@@ -109,7 +109,7 @@ impl<L: Read + Drop, W: Write + Drop> Held<L, W> {
     }
 }
 
-impl<L: Read + Drop, W: Write + Drop> Watch for Held<L, W> {
+impl<L: Read + Drop, W: Write + Drop> Watch for Comparison<L, W> {
     fn answered(&mut self, _act: &Act<'_>, answered: &Answered) -> Result<(), Stop> {
         write_answered(&mut self.expected, answered)?;
         self.hold()

@@ -1,17 +1,15 @@
 // A recorded log, judged by the run law: the plan tells what each act was given, the log what it answered.
-use crate::reading::{Plan, Player, Purpose};
-use crate::recorded::RecordedLog;
+use crate::lines::{Lines, turns};
+use crate::playing::{Plan, Player, Start};
 use crate::stop::Stop;
 use control::Refused;
 use judge::{Judge, Seen, Verdict};
-use lamps::LampWords;
 use log_rows::{LineRefused, LineTaken, ResetRefused, ResetTaken};
-use plan::{RecordedRow, RecordedSecond, Row, read_recorded, without_end};
-use replay::{Act, LineAct, SecondAct};
-use sheet::{Refusal, Sheet};
+use plan::{RecordedRow, RecordedSecond, read_recorded, without_end};
+use replay::{Act, LineAct, Opening, SecondAct};
 use std::alloc::Global;
 use std::io::{self, Read, Write};
-use strategy::Strategy;
+use strategy::ChosenStrategy;
 
 // How many acts against the rules are told, at most.
 const MOST_TOLD: u64 = 10;
@@ -77,10 +75,10 @@ fn write_reset_due<W: Write>(out: &mut W, due: Result<(), Refused>) -> io::Resul
     }
 }
 
-// Judging the recorded log that is read from here, telling what is found there.
+/// Judging the recorded log that is read from here, writing what is found there.
 #[derive(Drop)]
 pub(crate) struct Judging<L, W> {
-    recorded: RecordedLog<L>,
+    recorded: Lines<L>,
     due: Vec<u8>,
     rows: Rows,
     against: u64,
@@ -88,10 +86,10 @@ pub(crate) struct Judging<L, W> {
 }
 
 impl<L: Read + Drop, W: Write + Drop> Judging<L, W> {
-    // The recorded log that is read from here.
+    /// The recorded log that is read from here.
     pub(crate) fn new(heap: Global, recorded: L, out: W) -> Result<Judging<L, W>, Stop> {
         Ok(Judging {
-            recorded: RecordedLog::new(heap, recorded)?,
+            recorded: Lines::new(heap, recorded)?,
             due: Vec::new(heap),
             rows: Rows::default(),
             against: 0,
@@ -101,8 +99,7 @@ impl<L: Read + Drop, W: Write + Drop> Judging<L, W> {
 
     // The next recorded act. Rows of other kinds are passed over.
     fn next_act(&mut self) -> Result<Option<RecordedRow>, Stop> {
-        // A count, since a `while let` owes a measure that falls, and no contract says that input ends.
-        for _ in 0..u64::MAX {
+        for _ in turns() {
             if !self.recorded.advance()? {
                 break;
             }
@@ -190,12 +187,12 @@ impl<L: Read + Drop, W: Write + Drop> Judging<L, W> {
 
 // A judge, and what it judges.
 #[derive(Drop)]
-struct Judged<S, L, W> {
-    judge: Judge<S>,
+struct Judged<L, W> {
+    judge: Judge<ChosenStrategy>,
     judging: Judging<L, W>,
 }
 
-impl<S: Strategy, L: Read + Drop, W: Write + Drop> Judged<S, L, W> {
+impl<L: Read + Drop, W: Write + Drop> Judged<L, W> {
     // A second.
     fn second(&mut self, second: &SecondAct<'_>) -> Result<(), Stop> {
         let RecordedSecond {
@@ -244,7 +241,7 @@ impl<S: Strategy, L: Read + Drop, W: Write + Drop> Judged<S, L, W> {
     }
 }
 
-impl<S: Strategy, L: Read + Drop, W: Write + Drop> Player for Judged<S, L, W> {
+impl<L: Read + Drop, W: Write + Drop> Player for Judged<L, W> {
     fn act(&mut self, act: Act<'_>) -> Result<(), Stop> {
         match act {
             Act::Second(second) => self.second(&second),
@@ -263,29 +260,26 @@ impl<S: Strategy, L: Read + Drop, W: Write + Drop> Player for Judged<S, L, W> {
     }
 }
 
-impl<L: Read + Drop, W: Write + Drop> Purpose for Judging<L, W> {
-    fn play<R: Read + Drop, S: Strategy + Drop, H: LampWords + Drop>(
-        self,
-        plan: &mut Plan<R>,
-        first: &Row,
-        sheet: Sheet,
-        strategy: S,
-        _head: H,
-    ) -> Result<(), Stop> {
-        let judged = Judged {
-            judge: Judge::new(sheet, strategy),
-            judging: self,
-        };
-        plan.play(judged, first)
-    }
-
-    fn nothing(mut self) -> Result<(), Stop> {
-        let judged = self.end(Verdict::default(), true);
-        self.out.flush()?;
-        judged
-    }
-
-    fn refused(self, refusal: Refusal) -> Result<(), Stop> {
-        Err(Stop::NothingPlayed(refusal.number, refusal.figure))
+/// Judges the recorded log of a plan, and writes the verdict.
+pub(crate) fn judge_plan<R: Read + Drop, L: Read + Drop, W: Write + Drop>(
+    mut plan: Plan<R>,
+    mut judging: Judging<L, W>,
+) -> Result<(), Stop> {
+    match plan.start() {
+        Ok(Some(Start { opening, first })) => {
+            let strategy = opening.new_strategy();
+            let Opening { sheet, .. } = opening;
+            let judge = Judge::new(sheet, strategy);
+            plan.play(Judged { judge, judging }, &first)
+        }
+        Ok(None) => {
+            let judged = judging.end(Verdict::default(), true);
+            judging.out.flush()?;
+            judged
+        }
+        Err(Stop::SheetRefused(refusal)) => {
+            Err(Stop::NothingPlayed(refusal.number, refusal.figure))
+        }
+        Err(stop) => Err(stop),
     }
 }
