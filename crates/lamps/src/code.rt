@@ -3,8 +3,8 @@ ghost use Rattle.std.specs.Prelude.{◌≡◌, ℕ, ◌^◌, ◌<◌};
 
 use crate::set::LampSet;
 
-/// A code's meaning is the set of lamps that each 32-bit lamp word stands for.
-// Every word stands for a set of 0 to 7, and every set of 0 to 7 has a word.
+/// How a 32-bit lamp word stands for a set of lamps (docs/RULES.md, "Lamp heads"). Every word stands for a set, and
+/// every set has a word.
 pub trait LampCode {
     ghost shows: { ℕ → ℕ };
 

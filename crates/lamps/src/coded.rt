@@ -8,15 +8,17 @@ use crate::head::{LampHead, LampWords};
 use crate::set::LampSet;
 use std::marker::PhantomData;
 
-// The colour ordered, or none while the head is cut.
+/// A head whose lamp words follow the code `C`; orders, cuts and restores are the same for every code
+/// (docs/RULES.md, "Lamp heads").
 #[derive(Debug, Drop)]
 pub struct CodedHead<C> {
+    // The colour ordered; none while the head is cut.
     colour: Option<Colour>,
     code: PhantomData<C>,
 }
 
 impl<C: LampCode> CodedHead<C> {
-    // A head that is dark and not cut.
+    /// A head that is dark and not cut.
     pub fn new() -> CodedHead<C>
         ensures { result ≡ new_head }
     {

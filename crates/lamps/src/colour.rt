@@ -4,16 +4,19 @@ ghost use Rattle.lamps.specs.Sets.{number_of, lamps_of};
 
 use crate::set::LampSet;
 
-// A lamp of the head.
+/// A lamp of the head.
 #[derive(Clone, Copy, Debug, PartialEq, Eq)]
 pub enum Lamp {
+    /// A vehicle waits.
     Red,
+    /// Red follows.
     FixedAmber,
+    /// A vehicle may go.
     FlashingAmber,
 }
 
 impl Lamp {
-    // The lamp's number; a set of lamps is the sum of its lamps' numbers.
+    /// The lamp's number, as alarm records and the log have it: 1, 2 or 4.
     pub fn number(self) -> u32
         ensures { result ≡ number_of self }
     {
@@ -25,17 +28,21 @@ impl Lamp {
     }
 }
 
-// A colour that a head can be ordered to show. The station's rules have dark as a colour, so it is no optional lamp.
+/// What the light shows or is ordered to show: dark, or one of its lamps.
 #[derive(Clone, Copy, Debug, PartialEq, Eq)]
 pub enum Colour {
+    /// No lamp is ordered.
     Dark,
+    /// The red lamp.
     Red,
+    /// The amber lamp, lit.
     FixedAmber,
+    /// The amber lamp, flashing.
     FlashingAmber,
 }
 
 impl Colour {
-    // The set of lamps that are lit when the head shows this colour.
+    /// The lamps that are lit when the head shows this colour.
     pub fn lamps(self) -> LampSet
         ensures { result ≡ lamps_of self }
     {

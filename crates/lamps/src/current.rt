@@ -8,14 +8,15 @@ use crate::coded::CodedHead;
 use crate::colour::Lamp;
 use crate::set::LampSet;
 
-// The least current of a lamp that is lit.
+// The least current of a lamp that is lit, in the units of the word.
 const LIT_FROM: u8 = 20;
 
-// Words that have the current of red in bits 0-7, of fixed amber in 8-15 and of flashing amber in 16-23.
+/// Lamp words with the current of each lamp: of red in bits 0 to 7, of fixed amber in 8 to 15, of flashing amber in
+/// 16 to 23. A lamp whose current is 20 or more is lit (docs/RULES.md, "Lamp heads").
 #[derive(Clone, Copy, Debug)]
 pub struct CurrentCode;
 
-// The head that is driven by such words.
+/// The head whose lamp words have the current of each lamp.
 pub type CurrentHead = CodedHead<CurrentCode>;
 
 // The current of a lamp in a word.
@@ -48,7 +49,7 @@ fn lit_part(word: u32, lamp: Lamp) -> u32
     }
 }
 
-// The set of the lamps that a word has lit.
+// The lamps that a word has lit.
 fn lit_set(word: u32) -> LampSet
     ensures { result ≡ current_set word }
 {

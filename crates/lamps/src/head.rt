@@ -7,9 +7,9 @@ ghost use Rattle.lamps.specs.Orders.{colour_after};
 use crate::colour::Colour;
 use crate::set::LampSet;
 
-// A head's meaning is the colour ordered, whether it is cut, and the set of lamps that each 32-bit lamp word stands for.
-// Every word stands for a set of 0 to 7, and every set of 0 to 7 has a word.
-// A set is a number, since the station's rules write a set of lamps as the sum of its lamps' numbers.
+/// What a lamp head does for a station (docs/RULES.md, "Lamp heads"). Its meaning is the colour ordered, whether it is
+/// cut, and the set of lamps that each 32-bit lamp word stands for, as the sum of their numbers. Every word stands for
+/// a set, and every set has a word. No call changes what words stand for, and none fails.
 pub trait LampHead {
     ghost colour: { Self → Colour };
 
@@ -21,13 +21,13 @@ pub trait LampHead {
 
     ghost every: { (h : Self) (lit : ℕ) → lit < 8 → (word : ℕ) × (word < 2 ^ 32) × (shows h word ≡ lit) };
 
-    // Orders a colour; a head that is cut stays as it is.
+    /// Orders a colour. A head that is cut stays dark.
     fn order(&mut self, chosen: Colour)
         ensures colour { colour self.new ≡ colour_after (is_cut self.old) (colour self.old) chosen }
         ensures is_cut { is_cut self.new ≡ is_cut self.old }
         ensures shows { shows self.new ≡ shows self.old };
 
-    // Answers the colour ordered.
+    /// The colour ordered; dark while the head is cut.
     fn ordered(&self) -> Colour
         ensures value { result ≡ colour self.now }
         ensures same { self.exit.now ≡ self.entry.now };
@@ -37,20 +37,21 @@ pub trait LampHead {
         ensures value { result ≡ shows self.now word }
         ensures same { self.exit.now ≡ self.entry.now };
 
-    // Cuts the head: it is dark, and stays so until it is restored.
+    /// Cuts the head, as the breaker does in a trip: it is dark, and stays so until it is restored.
     fn cut(&mut self)
         ensures colour { colour self.new ≡ Dark }
         ensures is_cut { is_cut self.new ≡ true }
         ensures shows { shows self.new ≡ shows self.old };
 
-    // Ends the cut, and orders dark.
+    /// Ends the cut, and orders dark.
     fn restore(&mut self)
         ensures colour { colour self.new ≡ Dark }
         ensures is_cut { is_cut self.new ≡ false }
         ensures shows { shows self.new ≡ shows self.old };
 }
 
-// A head that can also give a lamp word for a set of lamps, so that a plan of seconds can be replayed.
+/// A head that can also give a lamp word for a set of lamps, so that a plan with `ok` words can be replayed. A cabinet's
+/// head need not.
 pub trait LampWords: LampHead {
     /// A word that stands for this set.
     fn word_for(&self, lit: LampSet) -> u32

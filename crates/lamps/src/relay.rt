@@ -5,11 +5,12 @@ use crate::code::LampCode;
 use crate::coded::CodedHead;
 use crate::set::LampSet;
 
-// Words that have red in the lowest bit, fixed amber in the next and flashing amber in the third.
+/// Lamp words with a bit for each lamp: red in the lowest, fixed amber in the next, flashing amber in the third
+/// (docs/RULES.md, "Lamp heads").
 #[derive(Clone, Copy, Debug)]
 pub struct RelayCode;
 
-// The head that is driven by such words.
+/// The head whose lamp words have a bit for each lamp.
 pub type RelayHead = CodedHead<RelayCode>;
 
 impl LampCode for RelayCode {
