@@ -1,2 +1,3 @@
 pub mod Steps
 pub mod Totals
+pub use Rattle.runlaw.specs.Log
