@@ -3,7 +3,8 @@ ghost use Rattle.std.specs.Prelude.{◌≡◌, ◌+◌, false, if◌then◌else�
 ghost use Rattle.control.specs.Phases.{colour_of_light};
 ghost use Rattle.control.specs.declared.meter.Light.TheVariants.{Red};
 ghost use Rattle.control.specs.declared.stage.Stage.TheVariants.{Metering};
-ghost use Rattle.control.specs.Metering.{started, runs, clocked, lit, red_stays, opening, red_step, light_step, metered};
+ghost use Rattle.control.specs.Metering.{started, runs, clocked, metered};
+ghost use Rattle.control.specs.Metering.{lit, red_stays, opening, red_step, light_step};
 ghost use Rattle.control.specs.Figures.{RM};
 
 use crate::stage::{Conditions, Stage};

@@ -1,7 +1,8 @@
 // Reading the tokens of a line one by one.
 ghost use Rattle.std.specs.Prelude.{◌≡◌, length};
 ghost use Rattle.orders.specs.Tokens.{tokens_of};
-ghost use Rattle.orders.specs.Reading.{left, whole_length, finished, Stepped, Required, Expected, Phrased, BehindPhrase};
+ghost use Rattle.orders.specs.Reading.{left, whole_length, finished};
+ghost use Rattle.orders.specs.Reading.{Stepped, Required, Expected, Phrased, BehindPhrase};
 
 use crate::fault::OrderFault;
 use crate::order::Order;

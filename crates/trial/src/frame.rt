@@ -46,17 +46,19 @@ fn two(number: u64) -> (u64, u64) {
     (number / 10 % 10, number % 10)
 }
 
-// Begins a picture of so many seconds. What follows is drawn in seconds from left to right.
+/// Begins a picture of so many seconds. What follows is drawn in seconds from left to right.
 pub(crate) fn frame_start<W: Write>(out: &mut W, seconds: u64) -> io::Result<()> {
     let span = seconds.max(1);
     writeln!(
         out,
-        "<svg xmlns=\"http://www.w3.org/2000/svg\" viewBox=\"0 0 1720 430\" width=\"1720\" height=\"430\" font-family=\"sans-serif\" font-size=\"12\">"
+        "<svg xmlns=\"http://www.w3.org/2000/svg\" viewBox=\"0 0 1720 430\" width=\"1720\" height=\"430\" \
+         font-family=\"sans-serif\" font-size=\"12\">"
     )?;
     writeln!(out, "<rect width=\"1720\" height=\"430\" fill=\"#fff\"/>")?;
     writeln!(
         out,
-        "<svg x=\"{LEFT}\" y=\"20\" width=\"{WIDTH}\" height=\"340\" viewBox=\"0 0 {span} 340\" preserveAspectRatio=\"none\">"
+        "<svg x=\"{LEFT}\" y=\"20\" width=\"{WIDTH}\" height=\"340\" viewBox=\"0 0 {span} 340\" \
+         preserveAspectRatio=\"none\">"
     )?;
     writeln!(
         out,
@@ -73,7 +75,8 @@ fn write_time<W: Write>(out: &mut W, at: u64, span: u64) -> io::Result<()> {
     let (s, t) = two(at % 60);
     writeln!(
         out,
-        "<path d=\"M{x} 20V366\" stroke=\"#ccc\"/><text x=\"{x}\" y=\"380\" text-anchor=\"middle\">{hours}:{m}{n}:{s}{t}</text>"
+        "<path d=\"M{x} 20V366\" stroke=\"#ccc\"/>\
+         <text x=\"{x}\" y=\"380\" text-anchor=\"middle\">{hours}:{m}{n}:{s}{t}</text>"
     )
 }
 
@@ -113,7 +116,7 @@ fn write_meanings<W: Write>(out: &mut W) -> io::Result<()> {
     Ok(())
 }
 
-// Ends a picture of so many seconds.
+/// Ends a picture of so many seconds.
 pub(crate) fn frame_end<W: Write>(out: &mut W, seconds: u64) -> io::Result<()> {
     writeln!(out, "</svg>")?;
     write_axis(out, seconds)?;

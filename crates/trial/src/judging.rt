@@ -125,7 +125,7 @@ impl<L: Read + Drop, W: Write + Drop> Judging<L, W> {
         }
     }
 
-    // The next recorded act, which has to be a command line: was it taken?
+    // Whether the next recorded act, which has to be a command line, was taken.
     fn next_line(&mut self) -> Result<bool, Stop> {
         match self.next_act()? {
             Some(RecordedRow::Line { taken }) => Ok(taken),
@@ -133,7 +133,7 @@ impl<L: Read + Drop, W: Write + Drop> Judging<L, W> {
         }
     }
 
-    // The next recorded act, which has to be a breaker reset: was it taken?
+    // Whether the next recorded act, which has to be a breaker reset, was taken.
     fn next_reset(&mut self) -> Result<bool, Stop> {
         match self.next_act()? {
             Some(RecordedRow::Reset { taken }) => Ok(taken),

@@ -11,7 +11,7 @@ use station::View;
 use std::alloc::Global;
 use std::io::{self, Write};
 
-// What is drawn of the seconds so far, and where the picture goes once their number is known.
+/// What is drawn of the seconds so far, and where the picture goes once their number is known.
 #[derive(Drop)]
 pub(crate) struct Picture<W> {
     seconds: u64,
@@ -44,7 +44,7 @@ fn mark(taken: bool) -> &'static str {
 }
 
 impl<W: Write + Drop> Picture<W> {
-    // The picture of a run that has not begun.
+    /// The picture of a run that has not begun.
     pub(crate) fn new(heap: Global, out: W) -> Picture<W> {
         Picture {
             seconds: 0,

@@ -6,7 +6,7 @@ use std::alloc::AllocError;
 use std::io;
 use thiserror::Error;
 
-// How the program is used.
+/// How the program is used.
 pub(crate) const USAGE: &str =
     "usage: trial PLAN            plays the plan and writes its log to standard output
        trial < PLAN          the same with the plan from standard input
@@ -19,7 +19,7 @@ A plan has a row for each second, command line and breaker reset, a log what eac
 answered; the fields of a row have `;` between them. docs/TRIAL.md has both formats.
 The status is 0 where all went well: the plan was run, the logs agree, the law is kept.";
 
-// What is wrong with a row of the plan.
+/// What is wrong with a row of the plan.
 #[derive(Clone, Copy, Debug, Error)]
 pub enum Fault {
     #[error("{0}")]
@@ -28,7 +28,7 @@ pub enum Fault {
     Misplaced(#[from] Misplaced),
 }
 
-// Why a run ends early; a row with its number.
+/// Why a run ends early; a row with its number.
 #[derive(Debug, Drop, Error)]
 pub enum Stop {
     #[error("{USAGE}")]

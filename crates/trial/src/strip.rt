@@ -2,7 +2,8 @@
 use std::alloc::Global;
 use std::io::{self, Write};
 
-// A strip: its place, the fill of the stretch that is drawn now with the second from which it has it, and the shapes before that.
+/// A strip: its place, the fill of the stretch that is drawn now with the second from which it has it, and the shapes
+/// before that.
 #[derive(Drop)]
 pub(crate) struct Strip {
     top: u32,
@@ -13,7 +14,7 @@ pub(crate) struct Strip {
 }
 
 impl Strip {
-    // A strip without a shape.
+    /// A strip without a shape.
     pub(crate) fn new(heap: Global, top: u32, height: u32) -> Strip {
         Strip {
             top,
@@ -43,7 +44,7 @@ impl Strip {
         Ok(())
     }
 
-    // A second with this fill.
+    /// A second with this fill.
     pub(crate) fn second(&mut self, at: u64, fill: &'static str) -> io::Result<()> {
         if fill != self.fill {
             self.draw(at)?;
@@ -53,13 +54,14 @@ impl Strip {
         Ok(())
     }
 
-    // The end, behind the last second.
+    /// The end, behind the last second.
     pub(crate) fn end(&mut self, at: u64) -> io::Result<()> {
         self.draw(at)
     }
 }
 
-// A line: the place of its zero, the height of its highest level, which stands for so much, the level now, and the path before that.
+/// A line: the place of its zero, the height of its highest level, which stands for so much, the level now, and the path
+/// before that.
 #[derive(Drop)]
 pub(crate) struct Line {
     zero: u32,
@@ -70,7 +72,7 @@ pub(crate) struct Line {
 }
 
 impl Line {
-    // A line at level 0.
+    /// A line at level 0.
     pub(crate) fn new(heap: Global, zero: u32, height: u32, most: u32) -> Line {
         Line {
             zero,
@@ -90,7 +92,7 @@ impl Line {
         }
     }
 
-    // A second at this level.
+    /// A second at this level.
     pub(crate) fn second(&mut self, at: u64, level: u32) -> io::Result<()> {
         if level != self.level {
             let drawn = self.drawn(level);
