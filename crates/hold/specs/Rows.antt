@@ -1,5 +1,5 @@
 -- Two logs held against each other, row by row.
-use Rattle.std.specs.Prelude.{ℕ, ◌+◌, min, Bool, false, cond, not, List, [], ◌∷◌, Some, None, Option}
+use Rattle.std.specs.Prelude.{ℕ, ◌+◌, min, Bool, false, cond, List, [], ◌∷◌, Some, Option}
 use Rattle.std.specs.Option.{option_map}
 use Rattle.std.specs.Str.{bytes_eq}
 use Rattle.hold.specs.declared.pair.Pair.{Pair}

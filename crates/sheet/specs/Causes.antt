@@ -1,5 +1,5 @@
 -- Which drafts are refused, with which cause, and how a cause is told.
-use Rattle.std.specs.Prelude.{ℕ, cond, Some, None, Option, Ok, Err, Result, nat_le}
+use Rattle.std.specs.Prelude.{cond, Some, None, Option, Ok, Err, Result, nat_le}
 use Rattle.std.specs.Option.{option_map, option_or}
 use Rattle.sheet.specs.declared.draft.Draft.{Draft}
 use Rattle.sheet.specs.declared.draft.Refusal.{Refusal}
