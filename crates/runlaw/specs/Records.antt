@@ -2,7 +2,6 @@
 use Rattle.std.specs.Prelude.{◌≡◌, [], IfSome, None, Some, is_some}
 use Rattle.sheet.specs.declared.sheet.Sheet.{Sheet}
 use Rattle.strategy.specs.declared.strategy.Strategy.{Ghosts as StrategyMeaning}
-use Rattle.control.specs.declared.answer.Trip.{Trip}
 use Rattle.control.specs.declared.stage.Stage.TheVariants.{Tripped}
 use Rattle.control.specs.Model.{Model, Given}
 use Rattle.control.specs.Phases.{phase_of}

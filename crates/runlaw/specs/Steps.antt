@@ -15,19 +15,14 @@ use Rattle.lamps.specs.Orders.{colour_after}
 use Rattle.lamps.specs.Words.{relay_set, current_set}
 use Rattle.records.specs.declared.alarm.TripCode.TheVariants.{NotLit, Unwanted}
 use Rattle.orders.specs.declared.order.Order.TheVariants as order
-use Rattle.orders.specs.declared.fault.Refusal.{Refusal}
 use Rattle.control.specs.declared.answer.Refused.TheVariants.{NotTripped}
-use Rattle.control.specs.declared.answer.Trip.{Trip}
 use Rattle.control.specs.declared.meter.Light.TheVariants as light
-use Rattle.control.specs.declared.meter.Light.{Light}
 use Rattle.control.specs.declared.meter.Meter.{Meter}
 use Rattle.control.specs.declared.stage.Stage.{Stage}
 use Rattle.control.specs.declared.stage.Stage.TheVariants as stage
-use Rattle.control.specs.declared.command.Command.{Command}
 use Rattle.control.specs.declared.counts.Counts.{Counts}
 use Rattle.control.specs.declared.command.Mode.TheVariants.{Local, Central}
 use Rattle.control.specs.declared.queue.Queue.{Queue}
-use Rattle.control.specs.Figures.{JC}
 use Rattle.control.specs.Fresh.{fresh}
 use Rattle.control.specs.Lines.{line_answer, after_line, reply_of, reset_answer, after_reset, telling_of}
 use Rattle.control.specs.declared.stage.Conditions.{Conditions}

@@ -1,5 +1,5 @@
 -- The station's loops: their figures are the sheet's, and a second closes a period where the rule says.
-use Rattle.std.proofs.Common.{◌≡◌, ℕ, ◌*◌, ◌<◌, true, false, cond, List, [], ◌∷◌, ◌++◌, length, Some, None, Option, sym, ap, ◌∙◌, subst, arith}
+use Rattle.std.proofs.Common.{◌≡◌, ◌*◌, ◌<◌, true, false, cond, List, [], ◌∷◌, ◌++◌, length, Some, None, Option, sym, ap, ◌∙◌, subst, arith}
 use Rattle.std.proofs.lemmas.Bool.{le-leb, lt-leb}
 use Rattle.sheet.specs.declared.sheet.Sheet.{Sheet}
 use Rattle.loops.specs.declared.figures.LoopFigures.{LoopFigures}
