@@ -1,6 +1,7 @@
 -- One second of metering keeps the invariant and the succession.
 use Rattle.std.proofs.Common.{◌≡◌, ℕ, ◌+◌, ◌-◌, ◌<◌, ◌≤◌, min, max, Bool, true, false, cond, not, ◌&&◌, ◌||◌, ltb, ◌⊎◌, sym, refl, ap, ◌∙◌, subst, inl, inr, arith, ltb-false, ltb-true}
 use Rattle.std.proofs.lemmas.Bool.{false≢true}
+use Rattle.std.proofs.lemmas.Bool.Decides.{nat_tests}
 use Rattle.sheet.specs.declared.sheet.Sheet.{Sheet}
 use Rattle.lamps.specs.declared.colour.Colour.{Colour}
 use Rattle.lamps.specs.declared.colour.Colour.TheVariants.{Red, FixedAmber, FlashingAmber}
@@ -12,9 +13,10 @@ use Rattle.control.specs.declared.stage.Stage.{Stage}
 use Rattle.control.specs.declared.stage.Stage.TheVariants as stage
 use Rattle.control.specs.Figures.{T2, JC, JF, RM}
 use Rattle.control.specs.Phases.{phase_of, colour_of, colour_of_light}
+use Rattle.control.specs.Seconds.{opening_by}
 use Rattle.control.specs.Metering.{light_step, flash_step, amber_step, red_step, red_stays, opening, lit, clocked_by, runs, metered}
 use Rattle.runlaw.specs.Log.{in_metering}
-use Rattle.runlaw.specs.RunLaw.{MayFollow}
+use Rattle.runlaw.specs.RunLaw.{is_flashing, MayFollow}
 use Rattle.runlaw.proofs.Seen.{Seen, grown, grown_by, put_all, at_all, Leads, MeterTied, LightTied, Bound}
 
 same_cycle : (b : Bool) (x y : ℕ) → (b ≡ true → x ≡ y) → cond b x y ≡ y
@@ -33,6 +35,10 @@ red_out false a r t n h k = h
 pub up : (p : Bool) (n a : ℕ) → n ≤ a → cond p (n + 1) 0 ≤ a + 1
 up true n a h = omega arith
 up false n a h = omega arith
+
+-- a window flash that goes on does not open
+flash_on : (age : ℕ) → 1 ≤ age → opening_by light.Flash (age + 1) ≡ 0
+flash_on age h = grind (arith, nat_tests)
 
 -- what the clock's second leaves, by whether the running cycle goes on
 record Ticks (d : Seen) (m k : Meter) (on : Bool) : Type 0 where
@@ -90,8 +96,10 @@ module _ (f : Sheet) (pr : Bool) (fx : ℕ) (d : Seen) (m : Meter) (on : Bool) (
       (o + (Grown c (stage.Metering (lit l a o after))).openings ≤ (Grown c (stage.Metering (lit l a o after))).begun) →
       Bound f (Grown c (stage.Metering (lit l a o after))) →
       LightTied f (Grown c (stage.Metering (lit l a o after))) (lit l a o after) l →
-      MayFollow f false d.stretch d.flashed d.ambered c (colour_of_light l) → Moves c (stage.Metering (lit l a o after))
-  goes_on c l a o ow bo li fo =
+      MayFollow f false d.stretch d.flashed d.ambered c (colour_of_light l) →
+      opening_by l a ≡ cond ((is_flashing (colour_of_light l) && true) && not (is_flashing c && true)) 1 0 →
+      Moves c (stage.Metering (lit l a o after))
+  goes_on c l a o ow bo li fo op =
       record {
         good =
             record {
@@ -103,28 +111,29 @@ module _ (f : Sheet) (pr : Bool) (fx : ℕ) (d : Seen) (m : Meter) (on : Bool) (
                   record { metering = refl; cycle = refl; lasted = refl; owed = ow; run = k.run; long = k.long; light = li };
             };
         follows = fo;
+        opened = op;
       }
 
   flash_moves : (young : Bool) → ltb m.age (JC f) ≡ young → LightTied f d m light.Flash → Moves FlashingAmber (flash_step young after)
   flash_moves true y t =
       goes_on FlashingAmber light.Flash (m.age + 1) after.arrears (omega (arith, k.owed)) (omega arith, omega arith)
-      (λ z. omega (arith, t (k.free z), k.more z)) tt
+      (omega arith, λ z. omega (arith, t.1 (k.free z), k.more z)) tt (flash_on m.age t.0)
   flash_moves false y t =
       let n = ltb-false m.age (JC f) y in
       goes_on FlashingAmber light.Amber 1 after.arrears (omega (arith, k.owed)) (omega arith, omega arith)
-      (refl, refl, omega arith, λ z. omega (arith, t (k.free z), k.more z), refl, refl) tt
+      (refl, refl, omega arith, λ z. omega (arith, t.1 (k.free z), k.more z), refl, refl) tt refl
 
   amber_moves : (young : Bool) → ltb m.age (JF f) ≡ young → LightTied f d m light.Amber → Moves FixedAmber (amber_step young after)
   amber_moves true y t =
       let n = ltb-true m.age (JF f) y in
       goes_on FixedAmber light.Amber (m.age + 1) after.arrears (omega (arith, k.owed)) (omega arith, omega arith)
-      (omega (arith, t.0), t.1, omega arith, λ z. omega (arith, t.3 (k.free z), k.more z), refl, refl) tt
+      (omega (arith, t.0), t.1, omega arith, λ z. omega (arith, t.3 (k.free z), k.more z), refl, refl) tt refl
   amber_moves false y t =
       let n = ltb-false m.age (JF f) y in
       let u = up pr d.waited 0 (omega (arith, t.5)) in
       goes_on FixedAmber light.Red 1 after.arrears (omega (arith, k.owed)) (omega arith, omega arith)
       (omega arith, omega arith, λ z. omega (arith, t.3 (k.free z), k.more z), λ z w. ap (λ b. cond b d.wait_cycle after.length) t.4)
-      (subst (λ b. d.stretch ≡ cond b (JF f) 5) (sym t.1) (omega (arith, t.0, t.2)))
+      (subst (λ b. d.stretch ≡ cond b (JF f) 5) (sym t.1) (omega (arith, t.0, t.2))) refl
 
   -- red stays
   module _ (t : LightTied f d m light.Red) where
@@ -154,19 +163,20 @@ module _ (f : Sheet) (pr : Bool) (fx : ℕ) (d : Seen) (m : Meter) (on : Bool) (
           omega (arith, b.1),
           λ z. omega (arith, t.2 (k.free z), k.more z),
           λ z w. inside_cycle z,
-        ) tt
+        ) tt refl
 
     -- red ends
     open_moves : RM f ≤ m.age → 0 < after.arrears → Moves Red (opening after)
     open_moves a o =
-        goes_on Red light.Flash 1 (after.arrears - 1) (omega (arith, k.owed)) (omega arith, omega arith) (λ z. k.some)
-        (red_out d.ambered m.age (RM f) (T2 f) d.stretch t.0 a)
+        goes_on Red light.Flash 1 (after.arrears - 1) (omega (arith, k.owed)) (omega arith, omega arith) (omega arith, λ z. k.some)
+        (red_out d.ambered m.age (RM f) (T2 f) d.stretch t.0 a) refl
 
     drain_moves : RM f ≤ m.age → Moves Red stage.Draining
     drain_moves a =
         record {
           good = record { colour = refl; inside = refl; paced = omega (arith, k.owed); bound = (omega arith, omega arith); tied = tt };
           follows = red_out d.ambered m.age (RM f) (T2 f) d.stretch t.0 a;
+          opened = refl;
         }
 
     close_moves : RM f ≤ m.age → Moves Red (stage.Closing 1)
@@ -174,6 +184,7 @@ module _ (f : Sheet) (pr : Bool) (fx : ℕ) (d : Seen) (m : Meter) (on : Bool) (
         record {
           good = record { colour = refl; inside = refl; paced = omega (arith, k.owed); bound = (omega arith, omega arith); tied = tt };
           follows = red_out d.ambered m.age (RM f) (T2 f) d.stretch t.0 a;
+          opened = refl;
         }
 
     red_moves :

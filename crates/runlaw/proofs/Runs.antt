@@ -33,11 +33,12 @@ use Rattle.control.specs.Metering.{light_step, clocked, started}
 use Rattle.control.specs.Model.{Model, Given}
 use Rattle.control.specs.Phases.{phase_of, colour_of, running_cycle, is_tripped}
 use Rattle.control.specs.Seconds as seconds
-use Rattle.control.specs.Seconds.{after, after_by, answer, answer_by, conditions, head_by, stage_by, strategy_now, close_now, trip_now, told_at, closed_by, is_whole, readings_after}
+use Rattle.control.specs.Seconds.{after, after_by, answer, answer_by, conditions, counted_if, head_by, stage_by, strategy_now, close_now, trip_now, told_at, closed_by, is_whole, readings_after}
 use Rattle.control.specs.Steps.{stepped}
 use Rattle.runlaw.specs.History.{History, Second, Line, Reset, WentThrough}
 use Rattle.runlaw.specs.Log.{in_metering, Log, Close, row, cycle_now, reset_since, cycle_by_line, centres_cycle, length_by, state_after, whole_period, until_whole, since_close, closing, closes, length_fixed, log, colour_shown, phase_shown, cycle_shown}
 use Rattle.runlaw.specs.RunLaw.{Succession, Darkness, trip_stands, RunLaw}
+use Rattle.runlaw.specs.Openings.{count_until_whole, openings_since}
 use Rattle.runlaw.proofs.Seen.{Seen, seen, Tied, Good, Leads}
 use Rattle.runlaw.proofs.Steps.{goes, trips}
 
@@ -131,6 +132,8 @@ module _ {S : Type 0} (st : StrategyMeaning S) (f : Sheet) (s : S) where
   pub record Inv (h : History) (m : Model S) : Type 0 where
     strategy : state_after st s (closes f h) ≡ m.strategy
     seconds : m.counts.seconds ≡ min (length (log f st s h)) 4294967295
+    periods : m.counts.periods ≡ min (length (closes f h)) 4294967295
+    openings : m.counts.openings ≡ min (openings_since f st s h) 4294967295
     readings : since_close f h ≡ m.readings
     centre : centres_cycle h ≡ m.command.centre_cycle
     within : Within m.command.centre_cycle
@@ -147,6 +150,21 @@ module _ {S : Type 0} (st : StrategyMeaning S) (f : Sheet) (s : S) where
       told_at st (state_after st s cs) (minute % 10080) (closed_by (not short) f ss)
   closing_told minute ss cs true = refl
   closing_told minute ss cs false = refl
+
+  -- a close counts a period more
+  closing_counted :
+      (minute n : ℕ) (ss : List loops.Second) (cs : List Close) (short : Bool) → n ≡ min (length cs) 4294967295 →
+      counted_if (is_some (closed_by (not short) f ss)) n ≡
+      min (length (cond short cs (record { minute = minute % 10080; measure = loops.period_measure (loop_figures f) ss } ∷ cs))) 4294967295
+  closing_counted minute n ss cs true e = e
+  closing_counted minute n ss cs false e = omega arith
+
+  -- a close begins the count of openings anew, before those of its second
+  openings_from_closing :
+      (n k o : ℕ) (ss : List loops.Second) (short : Bool) → n ≡ min k 4294967295 →
+      min (cond (is_some (closed_by (not short) f ss)) 0 n + o) 4294967295 ≡ min (cond short k 0 + o) 4294967295
+  openings_from_closing n k o ss true e = omega arith
+  openings_from_closing n k o ss false e = refl
 
   until_same : (ss : List loops.Second) (short : Bool) → cond short ss [] ≡ cond (not short) [] ss
   until_same ss true = refl
@@ -169,6 +187,23 @@ module _ {S : Type 0} (st : StrategyMeaning S) (f : Sheet) (s : S) where
         ap (λ ss. state_after st s (closing f g.minute ss (closes f h))) lists_same ∙
         closing_told g.minute given (closes f h) (ltb (length given) (whole_period f)) ∙
         (λ i. told_at st (v.strategy i) (g.minute % 10080) (closed_by (sym (whole_same f given) i) f given))
+
+    periods_same :
+        counted_if (is_some (close_now st f n g)) n.counts.periods ≡
+        min (length (closing f g.minute (since_close f h ++ g.lanes ∷ []) (closes f h))) 4294967295
+    periods_same =
+        (λ i. counted_if (is_some (closed_by (whole_same f given i) f given)) n.counts.periods) ∙
+        closing_counted g.minute n.counts.periods given (closes f h) (ltb (length given) (whole_period f)) v.periods ∙
+        ap (λ ss. min (length (closing f g.minute ss (closes f h))) 4294967295) (sym lists_same)
+
+    openings_same :
+        (o p : ℕ) → o ≡ p →
+        min (cond (is_some (close_now st f n g)) 0 n.counts.openings + o) 4294967295 ≡
+        min (count_until_whole f (since_close f h ++ g.lanes ∷ []) (openings_since f st s h) + p) 4294967295
+    openings_same o p e =
+        (λ i. min (cond (is_some (closed_by (whole_same f given i) f given)) 0 n.counts.openings + e i) 4294967295) ∙
+        openings_from_closing n.counts.openings (openings_since f st s h) p given (ltb (length given) (whole_period f)) v.openings ∙
+        ap (λ ss. min (count_until_whole f ss (openings_since f st s h) + p) 4294967295) (sym lists_same)
 
     length_fixed_lem : (a : Answer) (c : Colour) → length_fixed f st s (Second g a c ∷ h) ≡ (conditions st f n g).length
     length_fixed_lem a c = length_same (centres_cycle h) _ ∙ (λ i. seconds.length_fixed (v.centre i) (st.cycle (told_same i)))
@@ -212,6 +247,8 @@ module _ {S : Type 0} (st : StrategyMeaning S) (f : Sheet) (s : S) where
         record {
           strategy = told_same;
           seconds = ap (λ k. min (k + 1) 4294967295) v.seconds ∙ omega arith;
+          periods = periods_same;
+          openings = openings_same _ _ (leads (answer_by st f n g o) (head_by st f n g (is_some o)) (is_some o)).opened;
           readings = readings_same;
           centre = v.centre;
           within = v.within;
@@ -260,6 +297,8 @@ module _ {S : Type 0} (st : StrategyMeaning S) (f : Sheet) (s : S) where
       record {
         strategy = v.strategy;
         seconds = v.seconds;
+        periods = v.periods;
+        openings = v.openings;
         readings = v.readings;
         centre =
             ap (λ k. cond (is_ok (line_answer f n line (length before))) (cycle_by_line (order_of line) k) k) v.centre ∙
@@ -280,6 +319,8 @@ module _ {S : Type 0} (st : StrategyMeaning S) (f : Sheet) (s : S) where
       record {
         strategy = v.strategy;
         seconds = v.seconds;
+        periods = v.periods;
+        openings = v.openings;
         readings = v.readings;
         centre = refl;
         within = tt;
@@ -300,6 +341,8 @@ module _ {S : Type 0} (st : StrategyMeaning S) (f : Sheet) (s : S) where
       record {
         strategy = v.strategy;
         seconds = v.seconds;
+        periods = v.periods;
+        openings = v.openings;
         readings = v.readings;
         centre = v.centre;
         within = v.within;
@@ -315,6 +358,8 @@ module _ {S : Type 0} (st : StrategyMeaning S) (f : Sheet) (s : S) where
       record {
         strategy = refl;
         seconds = refl;
+        periods = refl;
+        openings = refl;
         readings = refl;
         centre = refl;
         within = tt;
@@ -405,6 +450,12 @@ module _ {S : Type 0} (st : StrategyMeaning S) (f : Sheet) (s : S) where
 
   pub seconds_lem : (h : History) (m : Model S) → WentThrough st f s h m → m.counts.seconds ≡ min (length (log f st s h)) 4294967295
   seconds_lem h m l = (inv h m l).seconds
+
+  pub periods_lem : (h : History) (m : Model S) → WentThrough st f s h m → m.counts.periods ≡ min (length (closes f h)) 4294967295
+  periods_lem h m l = (inv h m l).periods
+
+  pub openings_lem : (h : History) (m : Model S) → WentThrough st f s h m → m.counts.openings ≡ min (openings_since f st s h) 4294967295
+  openings_lem h m l = (inv h m l).openings
 
   -- a station is tripped exactly while a trip stands that no breaker reset has ended
   pub tripped_shown_lem : (h : History) (m : Model S) → WentThrough st f s h m → is_tripped m.stage ≡ (not (reset_since h) && trip_stands (log f st s h))

@@ -9,6 +9,7 @@ use Rattle.control.specs.declared.stage.Stage.{Stage}
 use Rattle.control.specs.declared.stage.Stage.TheVariants as stage
 use Rattle.control.specs.Figures.{T2, JC, JF, RM}
 use Rattle.control.specs.Phases.{phase_of, colour_of}
+use Rattle.control.specs.Seconds.{openings_in}
 use Rattle.runlaw.specs.Log.{in_metering, Log, colour_now, phase_now, metering_now, cycle_now, lasted_now}
 use Rattle.runlaw.specs.RunLaw.{is_red, is_amber, is_flashing, same, stretch, after_flash, after_amber, openings, begun, waits_now, waited, wait_cycle, MayFollow}
 
@@ -69,7 +70,7 @@ grown t pr fixed d s =
 
 -- the invariant between what is seen and the stage
 abbrev pub LightTied : Sheet → Seen → Meter → Light → Type 0
-LightTied f d m light.Flash = m.arrears ≡ 0 → m.age ≤ m.lasted
+LightTied f d m light.Flash = (1 ≤ m.age) × (m.arrears ≡ 0 → m.age ≤ m.lasted)
 LightTied f d m light.Amber =
     (d.stretch ≡ m.age) × (d.flashed ≡ true) × (m.age ≤ JF f) × (m.arrears ≡ 0 → JC f + m.age ≤ m.lasted) × (d.waits ≡ false) × (d.waited ≡ 0)
 LightTied f d m light.Red =
@@ -108,6 +109,8 @@ pub record Good (f : Sheet) (d : Seen) (s : Stage) : Type 0 where
 pub record Leads (f : Sheet) (trip : Bool) (d e : Seen) (s : Stage) : Type 0 where
   pub good : Good f e s
   pub follows : MayFollow f trip d.stretch d.flashed d.ambered d.colour e.colour
+  -- the stage counts an opening exactly where the first second of a window flash is seen
+  pub opened : openings_in s ≡ cond ((is_flashing e.colour && e.inside) && not (is_flashing d.colour && d.inside)) 1 0
 
 -- the same, with colour and inside written in, and the running cycle too
 abbrev pub put_all : Seen → Colour → Bool → Bool → ℕ → ℕ → Seen

@@ -1,5 +1,5 @@
 -- One second of each stage keeps the invariant and the succession.
-use Rattle.std.proofs.Common.{◌≡◌, ℕ, ◌+◌, ◌≤◌, Bool, true, false, cond, ◌&&◌, ◌||◌, ltb, sym, refl, subst, arith, ltb-false, ltb-true}
+use Rattle.std.proofs.Common.{◌≡◌, ℕ, ◌+◌, ◌≤◌, Bool, true, false, cond, not, ◌&&◌, ◌||◌, ltb, sym, refl, subst, arith, ltb-false, ltb-true}
 use Rattle.std.proofs.lemmas.Bool.{false≢true}
 use Rattle.sheet.specs.declared.sheet.Sheet.{Sheet}
 use Rattle.lamps.specs.declared.colour.Colour.{Colour}
@@ -9,10 +9,11 @@ use Rattle.control.specs.declared.stage.Stage.{Stage}
 use Rattle.control.specs.declared.stage.Stage.TheVariants as stage
 use Rattle.control.specs.Figures.{T1, T2, T3, JF, RM}
 use Rattle.control.specs.Phases.{phase_of, colour_of}
+use Rattle.control.specs.Seconds.{openings_in}
 use Rattle.control.specs.Metering.{red_step, clocked_by, started, metered}
 use Rattle.control.specs.Steps.{stepped}
 use Rattle.runlaw.specs.Log.{in_metering}
-use Rattle.runlaw.specs.RunLaw.{is_red, MayFollow}
+use Rattle.runlaw.specs.RunLaw.{is_red, is_flashing, MayFollow}
 use Rattle.runlaw.proofs.Metering.{up, meters_go}
 use Rattle.runlaw.proofs.Seen.{Seen, grown, grown_by, put, put_all, at, at_all, Good, Leads, Tied}
 
@@ -20,6 +21,18 @@ use Rattle.runlaw.proofs.Seen.{Seen, grown, grown_by, put, put_all, at, at_all, 
 no_wait : (red presence : Bool) (n : ℕ) → cond (red && false && presence) n 0 ≡ 0
 no_wait true presence n = refl
 no_wait false presence n = refl
+
+-- no stage outside metering counts an opening, and no row there is one
+no_opening :
+    (first : Bool) (s : Stage) → false ≡ in_metering (phase_of s) → openings_in s ≡ cond ((is_flashing (colour_of s) && false) && first) 1 0
+no_opening first stage.Standby q = refl
+no_opening first (stage.OpeningFlash t) q = refl
+no_opening first (stage.OpeningAmber t) q = refl
+no_opening first (stage.OpeningRed t) q = refl
+no_opening first (stage.Metering m) q = absurd (false≢true q)
+no_opening first stage.Draining q = refl
+no_opening first (stage.Closing t) q = refl
+no_opening first stage.Tripped q = refl
 
 -- a step from outside metering to outside metering: b says whether the stage is inside
 calm_put :
@@ -29,7 +42,11 @@ calm_put :
 calm_put f pr fx d c s true q same ti fo = absurd (false≢true (sym q))
 calm_put f pr fx d c s false q same ti fo =
     let none = no_wait (is_red (colour_of s)) pr (d.waited + 1) in
-    record { good = record { colour = refl; inside = same; paced = omega arith; bound = (omega (arith, none), omega (arith, none)); tied = ti }; follows = fo }
+    record {
+      good = record { colour = refl; inside = same; paced = omega arith; bound = (omega (arith, none), omega (arith, none)); tied = ti };
+      follows = fo;
+      opened = no_opening (not (is_flashing c && false)) s same;
+    }
 
 module _ (f : Sheet) (i : Conditions) (lo : 4 ≤ i.length) (hi : i.length ≤ 120) (d : Seen) where
   abbrev Goes : Stage → Seen → Type 0
@@ -95,6 +112,7 @@ module _ (f : Sheet) (i : Conditions) (lo : 4 ≤ i.length) (hi : i.length ≤ 1
                   };
             };
         follows = tt;
+        opened = refl;
       }
   enters false wanted full opens y pa t l =
       let a = ltb-false 0 (RM f) y in
@@ -137,4 +155,5 @@ trips f pr fx d =
     record {
       good = record { colour = refl; inside = refl; paced = omega arith; bound = (omega arith, omega arith); tied = tt };
       follows = any_dark f d.stretch d.flashed d.ambered d.colour;
+      opened = refl;
     }
