@@ -21,6 +21,7 @@ use Rattle.control.specs.Seconds.{after, answer, readings_after, period_put, ala
 use Rattle.runlaw.specs.History.{Act, History, WentThrough}
 use Rattle.runlaw.specs.Log.{log, colour_shown, phase_shown, cycle_shown, centres_cycle, state_after, closes}
 use Rattle.runlaw.specs.RunLaw.{RunLaw}
+use Rattle.runlaw.specs.Openings.{openings_since}
 use Rattle.station.specs.declared.station.Station.{Station}
 use Rattle.station.specs.declared.field.View.{View}
 use Rattle.station.specs.Parts.{PutInto}
@@ -92,7 +93,8 @@ module _ {S H : Type 0} (st : StrategyMeaning S) (hd : HeadMeaning H) where
     pub answers : (ss : List Readings) → r ≡ reset_answer (model hd before ss)
     pub unaltered : IfErr r (λ _. behind ≡ before)
 
-  -- what a look promises of every history that the station lived: the run law, and that what is seen is what the log has
+  -- what a look promises of every history that the station lived: the run law, that what is seen is what the log has,
+  -- and that what was counted is what an observer counts
   pub record Looked (t : Station S H) (r : View) (s : S) (h : History) : Type 0 where
     pub law : RunLaw st t.sheet s h
     pub colour : r.colour ≡ colour_shown t.sheet st s h
@@ -102,6 +104,11 @@ module _ {S H : Type 0} (st : StrategyMeaning S) (hd : HeadMeaning H) where
     pub seconds : r.seconds ≡ capped (length (log t.sheet st s h))
     pub centre : t.command.centre_cycle ≡ centres_cycle h
     pub strategy : t.strategy ≡ state_after st s (closes t.sheet h)
+    -- as many periods were counted as the history has closes; that is the number of the newest period record
+    pub periods : t.counts.periods ≡ capped (length (closes t.sheet h))
+    -- the openings counted for the next period record are the log's since the last close; one in the second of that
+    -- close is among them
+    pub openings : t.counts.openings ≡ capped (openings_since t.sheet st s h)
 
 -- what is seen of a station
 abbrev pub view_of : {S H : Type 0} → HeadMeaning H → Station S H → View

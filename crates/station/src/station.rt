@@ -166,7 +166,8 @@ impl<S: Strategy, H: LampHead> Station<S, H> {
     }
 
     /// What is seen of the station. The contract has the promises over runs for every history that the station lived,
-    /// and that what is seen is what the log of that history has. (docs/RULES.md, "Promises")
+    /// and that what is seen, and what was counted of periods and openings, is what the log of that history has.
+    /// (docs/RULES.md, "Promises")
     pub fn look(&self) -> View
         ensures view { result ≡ view_of H.LampHead self.now }
         ensures looked { (s : S) (h : History) → Lived S.Strategy H.LampHead self.now s h →

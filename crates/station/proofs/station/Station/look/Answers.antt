@@ -1,5 +1,5 @@
 use Rattle.std.proofs.Common.{◌∙◌}
-use Rattle.runlaw.proofs.Runs.{law_holds, colour_shown_lem, phase_shown_lem, cycle_shown_lem, seconds_lem, centre_lem, strategy_lem}
+use Rattle.runlaw.proofs.Runs.{law_holds, colour_shown_lem, phase_shown_lem, cycle_shown_lem, seconds_lem, centre_lem, strategy_lem, periods_lem, openings_lem}
 use Rattle.station.specs.Station.{model}
 use Rattle.station.proofs.station.Station.look.Goals as goal
 
@@ -27,5 +27,7 @@ returns g c =
             seconds = seconds_lem st f s h m l.2;
             centre = centre_lem st f s h m l.2;
             strategy = strategy_lem st f s h m l.2;
+            periods = periods_lem st f s h m l.2;
+            openings = openings_lem st f s h m l.2;
           };
     }
