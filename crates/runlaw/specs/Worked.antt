@@ -1,12 +1,13 @@
 -- Worked figures of the rules.
-use Rattle.std.specs.Prelude.{◌≡◌, ℕ, true, false, List, [], Some, None, Ok, Err, codes, Option, Result}
+use Rattle.std.specs.Prelude.{◌≡◌, ℕ, true, false, List, [], ◌∷◌, Some, None, Ok, Err, codes, Option, Result}
 use Rattle.sheet.specs.declared.sheet.Sheet.{Sheet}
 use Rattle.strategy.specs.declared.alinea.Alinea.{Alinea}
 use Rattle.strategy.specs.declared.measure.Measure.{Measure}
 use Rattle.strategy.specs.declared.limiter.Limiter.{Limiter}
 use Rattle.strategy.specs.Meanings.{alinea_meaning, limited_meaning}
 use Rattle.loops.specs.declared.lane.LaneTally.{LaneTally}
-use Rattle.loops.specs.Rules.{is_valid, interval_occupancy}
+use Rattle.loops.specs.declared.figures.LoopFigures.{LoopFigures}
+use Rattle.loops.specs.Rules.{is_valid, interval_occupancy, measure_of}
 use Rattle.orders.specs.Worked.{WorkedLines}
 use Rattle.orders.specs.declared.fault.Refusal.{Refusal}
 use Rattle.control.specs.declared.answer.Refused.{Refused}
@@ -29,6 +30,14 @@ pub record Steers (a : Alinea) (q : ℕ) : Type 0 where
 -- the sums of an interval with all readings in range
 abbrev pub interval : (seen sound : ℕ) → LaneTally
 interval seen sound = record { seen = seen; sound = sound; busy_ms = 0; in_range = true }
+
+-- the sums of an interval in which all that was seen was sound, with this many busy milliseconds
+abbrev pub busy_interval : (seen busy : ℕ) → LaneTally
+busy_interval seen busy = record { seen = seen; sound = seen; busy_ms = busy; in_range = true }
+
+-- two intervals of 10 seconds on each of two lanes
+abbrev pub two_lanes : List (List LaneTally)
+two_lanes = (busy_interval 3 2199 ∷ busy_interval 4 3108 ∷ []) ∷ (busy_interval 2 1019 ∷ busy_interval 3 2029 ∷ []) ∷ []
 
 -- a fresh station after the line that sets central mode
 abbrev pub in_central_mode : Sheet → Alinea → (ℕ → ℕ) → Model Alinea
@@ -56,6 +65,9 @@ pub record WorkedFigures : Type 0 where
   pub sound_5_of_5 : is_valid 80 (interval 5 5) ≡ true
   -- 4,619 busy milliseconds in 20 seconds are an occupancy of 230
   pub occupancy : interval_occupancy 20 4619 ≡ 230
+  -- lane 1 has occupancies of 219 and 310, and 264 over both; lane 2 has 101 and 202, and 151; the period has the mean of these,
+  -- 207, and the 12 vehicles of both lanes
+  pub measure : (f : LoopFigures) → f.interval_seconds ≡ 10 → f.availability ≡ 80 → f.overcount ≡ 600 → measure_of f two_lanes ≡ Some (occupied 12 207)
   -- the line of a cycle of 120 is read, that of 121 is refused with 7 at place 15, and the off line is read
   pub lines : WorkedLines
   -- in central mode a line with a cycle of 120 is taken and sets it, and one of 121 is refused with 7 at place 15

@@ -21,7 +21,8 @@ pub trait Strategy {
     fn tell(&mut self, minute: u32, measure: Option<Measure>)
         ensures { self.new ≡ next self.old minute measure };
 
-    /// The cycle of its state in seconds, 4 to 120.
+    /// The cycle of its state in seconds, 4 to 120. Asking alters nothing.
     fn ask(&self) -> u32
-        ensures { result ≡ cycle self.now };
+        ensures value { result ≡ cycle self.now }
+        ensures same { self.exit.now ≡ self.entry.now };
 }

@@ -1,14 +1,19 @@
-use Rattle.std.specs.Prelude.{◌≡◌, ℕ, Some, Option}
+use Rattle.std.specs.Prelude.{◌≡◌, ℕ, Bool, ◌&&◌, cond, List, sum_by, Some, None, Option}
+use Rattle.std.specs.List.{list_all}
 use Rattle.std.proofs.Common.{refl, ap, ◌∙◌}
 use Rattle.strategy.specs.declared.alinea.Alinea.{Alinea}
 use Rattle.strategy.specs.declared.measure.Measure.{Measure}
+use Rattle.loops.specs.declared.figures.LoopFigures.{LoopFigures}
+use Rattle.loops.specs.declared.lane.LaneTally.{LaneTally}
+use Rattle.loops.specs.Lists.{mean_of}
+use Rattle.loops.specs.Rules.{is_valid, is_plausible, lane_flow, lane_occupancy, measure_of}
 use Rattle.strategy.specs.Alinea.{flow_after, cycle_of_flow}
 use Rattle.strategy.specs.Limiter.{own_after}
 use Rattle.strategy.specs.Meanings.{alinea_meaning}
 use Rattle.orders.specs.Lines.{lines}
 use Rattle.orders.proofs.WorkedLines.{worked_lines}
 use Rattle.orders.specs.Tokens.{tokens_from}
-use Rattle.runlaw.specs.Worked.{occupied, Steers}
+use Rattle.runlaw.specs.Worked.{occupied, Steers, two_lanes}
 use Rattle.runlaw.proofs.laws.worked_figures_hold.Goals as goal
 
 -- the flow of such an ALINEA after a close
@@ -19,6 +24,20 @@ flow_then a q minute m h =
     ap (λ n. flow_after 70 200 n a.highest_flow a.flow_tenths m) h.lowest ∙
     ap (λ n. flow_after 70 200 30 n a.flow_tenths m) h.highest ∙
     ap (λ n. flow_after 70 200 30 900 n m) h.flow
+
+-- the measure of some lanes by the three figures that it goes by
+abbrev sound_by : (seconds availability overcount : ℕ) → List LaneTally → Bool
+sound_by i a o ts = list_all (is_valid a) ts && is_plausible o (lane_flow ts) (lane_occupancy i ts)
+
+abbrev measured : (seconds availability overcount : ℕ) → List (List LaneTally) → Option Measure
+measured i a o lanes =
+    cond (list_all (sound_by i a o) lanes) (Some (record { flow = sum_by lane_flow lanes; occupancy_permille = mean_of (lane_occupancy i) lanes })) None
+
+two_lanes_measured : (f : LoopFigures) → f.interval_seconds ≡ 10 → f.availability ≡ 80 → f.overcount ≡ 600 → measure_of f two_lanes ≡ Some (occupied 12 207)
+unfolding measure_of
+two_lanes_measured f i a o =
+    ap (λ n. measured n f.availability f.overcount two_lanes) i ∙
+    ap (λ n. measured 10 n f.overcount two_lanes) a ∙ ap (λ n. measured 10 80 n two_lanes) o
 
 pub returns : goal.returns
 unfolding lines tokens_from
@@ -36,6 +55,7 @@ returns c =
       sound_4_of_5 = refl;
       sound_5_of_5 = refl;
       occupancy = refl;
+      measure = two_lanes_measured;
       lines = worked_lines;
       longest_cycle = λ f a shows. refl;
       cycle_set = λ f a shows. refl;
