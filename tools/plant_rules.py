@@ -42,6 +42,16 @@ NOTICED = {"laws_hold": "laws", "run_law_stands": "run law", "record_laws_hold":
 
 # Misreadings of a step: what is misread, and the edit of a definition.
 NAMED = [
+    ("a lane's occupancy is the sum of its intervals'", "loops", "Rules", "lane_occupancy seconds ts = mean_of (λ", "lane_occupancy seconds ts = sum_by (λ"),
+    ("a period's occupancy is the sum of its lanes'", "loops", "Rules", "occupancy_permille = mean_of (lane_occupancy f.interval_seconds) lanes }", "occupancy_permille = sum_by (lane_occupancy f.interval_seconds) lanes }"),
+    ("a period's flow is the mean of its lanes'", "loops", "Rules", "(record { flow = sum_by lane_flow lanes;", "(record { flow = mean_of lane_flow lanes;"),
+    ("a period's flow counts its lanes and not its vehicles", "loops", "Rules", "(record { flow = sum_by lane_flow lanes;", "(record { flow = length lanes;"),
+    ("an interval's busy milliseconds are its occupancy", "loops", "Rules", "interval_occupancy seconds busy = busy / seconds", "interval_occupancy seconds busy = busy"),
+    ("as many sound as the availability are enough", "loops", "Rules", "nat_lt (availability * t.seen) (100 * t.sound)", "nat_le (availability * t.seen) (100 * t.sound)"),
+    ("a lane always busy is sound", "loops", "Rules", "nat_le flow overcount && not (occupancy == 1000) && agree", "nat_le flow overcount && agree"),
+    ("an empty lane beside an occupancy is sound", "loops", "Rules", "not (occupancy == 1000) && agree flow occupancy", "not (occupancy == 1000)"),
+    ("a lane of unsound intervals is sound", "loops", "Rules", "is_sound f ts = list_all (is_valid f.availability) ts && is_plausible", "is_sound f ts = is_plausible"),
+    ("a period has a measure whatever its lanes are", "loops", "Rules", "cond (list_all (is_sound f) lanes)", "cond true"),
     ("arrears grow by two", "control", "Metering", "min (m.arrears + 1) most_arrears", "min (m.arrears + 2) most_arrears"),
     ("arrears grow in every second", "control", "Metering", "arrears = cond goes_on m.arrears (min", "arrears = cond goes_on (m.arrears + 1) (min"),
     ("more arrears are kept", "control", "Metering", "most_arrears = 60000", "most_arrears = 60001"),
