@@ -155,7 +155,7 @@ def without_functions(lines):
         end = n
         while not re.match(head[1] + r"\}$|" + head[1] + r".*\{\}$", lines[end]):
             end += 1
-        if head[2] or THEOREM.search(line):
+        if head[2] or THEOREM.search(line) or "impl Model for" in line:
             kept.extend(lines[n : end + 1])
         else:
             while kept and re.match(r"\s*(//|#\[)", kept[-1]):
@@ -165,17 +165,20 @@ def without_functions(lines):
 
 
 def without_names(text):
-    """The text without imports of functions, whose names begin with a small letter."""
+    """The text without imports of functions, whose names begin with a small letter, but for the theorems'."""
+
+    def stays(name):
+        return name and (name[0].isupper() or name in ("self", "fmt") or name in NOTICED)
 
     def shorter(it):
-        several = re.match(r"use ([\w:]+)::\{([^}]*)\};", it[0], re.S)
+        several = re.match(r"((?:pub )?use [\w:]+)::\{([^}]*)\};", it[0], re.S)
         if several:
-            names = [name for name in map(str.strip, several[2].split(",")) if name and (name[0].isupper() or name == "self")]
-            return f"use {several[1]}::{{{', '.join(names)}}};" if names else ""
-        one = re.match(r"use [\w:]+::(\w+);", it[0])
-        return "" if one and one[1][0].islower() and one[1] != "fmt" else it[0]
+            names = [name for name in map(str.strip, several[2].split(",")) if stays(name)]
+            return f"{several[1]}::{{{', '.join(names)}}};" if names else ""
+        one = re.match(r"(?:pub )?use [\w:]+::(\w+);", it[0])
+        return it[0] if not one or stays(one[1]) else ""
 
-    return re.sub(r"^use [^;]*;", shorter, text, flags=re.M)
+    return re.sub(r"^(?:pub )?use [^;]*;", shorter, text, flags=re.M)
 
 
 def laws_alone(folder):
@@ -186,9 +189,12 @@ def laws_alone(folder):
             with open(file, "w", encoding="utf-8") as it:
                 it.write(text)
         proofs = f"{folder}/crates/{crate}/proofs"
-        for name in os.listdir(proofs) if os.path.isdir(proofs) else []:
-            if os.path.isdir(f"{proofs}/{name}") and name != "laws":
-                shutil.rmtree(f"{proofs}/{name}")
+        if crate != "orders":  # the laws of command lines are the only theorem below `runlaw`
+            shutil.rmtree(proofs, ignore_errors=True)
+        for place, folders, _ in list(os.walk(proofs, topdown=False)):
+            for name in folders:
+                if os.path.isdir(f"{place}/{name}") and name not in NOTICED and not any(os.path.isdir(f"{place}/{name}/{it}") for it in NOTICED):
+                    shutil.rmtree(f"{place}/{name}")
         shutil.rmtree(f"{folder}/crates/{crate}/must-fail", ignore_errors=True)
 
 
