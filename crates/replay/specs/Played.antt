@@ -9,7 +9,7 @@ use Rattle.control.specs.Seconds.{period_put, alarm_put}
 use Rattle.runlaw.specs.History as history
 use Rattle.runlaw.specs.Log.{log}
 use Rattle.station.specs.declared.station.Station.{Station}
-use Rattle.station.specs.Station.{model, Stands, Lived, GoesOn, view_of}
+use Rattle.station.specs.Station.{model, Stands, Lived, GoesOn, Looked, view_of}
 use Rattle.observer.specs.Totals.{observer_of, refusals_in}
 use Rattle.replay.specs.declared.act.Act.{Act}
 use Rattle.replay.specs.declared.act.Act.TheVariants.{Second, Line, Reset}
@@ -56,9 +56,14 @@ module _ {S H : Type 0} (st : StrategyMeaning S) (hd : HeadMeaning H) where
 
   -- an act with its answer: it was played on the station, what was seen after it is what the station shows, and every history goes on by it
   pub record ActPlayed (before : Run S H) (x : Act) (r : Answered) (behind : Run S H) : Type 0 where
+    pub sheet : behind.station.sheet ≡ before.station.sheet
     pub played : PlayedAs st hd before.station x r.outcome behind.station
     pub view : r.view ≡ view_of hd behind.station
     pub goes_on : (s : S) (h : history.History) → RanThrough before s h → RanThrough behind s (act_of x r ∷ h)
+    -- with this act, every history that the run went through keeps the run law, and what was seen is what its log has
+    pub looked :
+        (s : S) (h : history.History) → RanThrough before s h →
+        Looked st hd behind.station r.view s (act_of x r ∷ h)
 
   -- acts in their order with their answers
   abbrev pub Played : Run S H → List Act → List Answered → Run S H → Type 0

@@ -192,7 +192,8 @@ impl<S: Strategy, H: LampWords> Run<S, H> {
     }
 
     /// Plays one act. A refused act leaves the station as it was and adds 1 to the refusals of the totals
-    /// (docs/RULES.md, "Refusals").
+    /// (docs/RULES.md, "Refusals"). Every history that the run went through keeps the promises with this act
+    /// (docs/RULES.md, "Promises").
     pub fn act(&mut self, act: Act<'_>) -> Answered
         ensures { ActPlayed S.Strategy H.LampHead self.old act.entry result self.new }
     {
@@ -208,6 +209,7 @@ impl<S: Strategy, H: LampWords> Run<S, H> {
     pub fn play(&mut self, acts: &[Act<'_>], answers: &mut [Answered]) -> usize
         ensures count { result ≡ min (length acts.now) (length answers.old) }
         ensures rest { drop result answers.new ≡ drop result answers.old }
+        ensures sheet { self.new.station.sheet ≡ self.old.station.sheet }
         ensures played { Played S.Strategy H.LampHead self.old
             (take result acts.now) (take result answers.new) self.new }
         ensures goes_on { (s : S) (h : History) →

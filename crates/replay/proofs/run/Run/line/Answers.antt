@@ -1,4 +1,4 @@
-use Rattle.std.proofs.Common.{is_ok, ap, ◌∙◌}
+use Rattle.std.proofs.Common.{◌∷◌, is_ok, ap, ◌∙◌}
 use Rattle.control.specs.Lines.{buffer_after}
 use Rattle.runlaw.specs.History.{Line}
 use Rattle.replay.specs.declared.run.Run.{Run}
@@ -17,10 +17,14 @@ returns g c =
     let colour = c.look-view.result.colour in
     let shown = ap (λ v. v.colour) c.look-view.ensures.view in
     let behind : Run g.row.S.Denot g.row.H.Denot = record { station = c.do_line-result.new.station; observer = c.counted_unless-self.result } in
+    let said = Line c.args.line.text.now buffer (buffer_after (replied_in r) buffer) (replied_in r) in
+    let goes_on =
+    goes_on_by st hd before behind done.sheet colour shown said done.lived
+    (refusal_counted st hd before behind done.sheet colour shown c.is_ok.result (is_ok (replied_in r)) (c.is_ok.ensures.value ∙ kept_of_taken r) c.counted_unless-self.ensures) in
     record {
+      sheet = done.sheet;
       played = done;
       view = c.look-view.ensures.view;
-      goes_on =
-          goes_on_by st hd before behind done.sheet colour shown (Line c.args.line.text.now buffer (buffer_after (replied_in r) buffer) (replied_in r)) done.lived
-          (refusal_counted st hd before behind done.sheet colour shown c.is_ok.result (is_ok (replied_in r)) (c.is_ok.ensures.value ∙ kept_of_taken r) c.counted_unless-self.ensures);
+      goes_on = goes_on;
+      looked = λ s h ran. c.look-view.ensures.looked s (said colour ∷ h) (goes_on s h ran).lived;
     }

@@ -1,4 +1,4 @@
-use Rattle.std.proofs.Common.{◌≡◌, ◌<◌, length, take, drop, subst, arith}
+use Rattle.std.proofs.Common.{◌≡◌, ◌<◌, length, take, drop, ◌∙◌, subst, arith}
 use Rattle.replay.specs.Played.{Played}
 use Rattle.plan.proofs.Reading.{same_behind}
 use Rattle.replay.proofs.Playing.{played_more, goes_through}
@@ -10,8 +10,9 @@ loop-i-preserved g c =
     let acts = c.args.acts.now in
     let p : at.i < length acts = omega (arith, c.min-count.ensures, c.loop-i-test.true) in
     let q : at.i < length at.answers = omega (arith, c.min-count.ensures, c.loop-i-test.true, at.auto.answers) in (
-      same_behind at.answers c.args.answers.now at.i c.act.result at.invariant.0,
-      played_more g.S.Strategy g.H.LampHead acts at.answers at.i _ c.act.result c.args.self.now at.self c.act.new.self p q at.invariant.1 c.act.ensures,
+      c.act.ensures.sheet ∙ at.invariant.0,
+      same_behind at.answers c.args.answers.now at.i c.act.result at.invariant.1,
+      played_more g.S.Strategy g.H.LampHead acts at.answers at.i _ c.act.result c.args.self.now at.self c.act.new.self p q at.invariant.2 c.act.ensures,
     )
 
 pub returns : goal.returns
@@ -23,10 +24,11 @@ returns g c =
     let acts = c.args.acts.now in
     let e : at.i ≡ n = omega (arith, at.auto.i-end, c.loop-i-test.false) in
     let played : Played st hd c.args.self.now (take n acts) (take n at.answers) at.self =
-    subst (λ k. Played st hd c.args.self.now (take k acts) (take k at.answers) at.self) e at.invariant.1 in
+    subst (λ k. Played st hd c.args.self.now (take k acts) (take k at.answers) at.self) e at.invariant.2 in
     record {
       count = c.min-count.ensures;
-      rest = subst (λ k. drop k at.answers ≡ drop k c.args.answers.now) e at.invariant.0;
+      rest = subst (λ k. drop k at.answers ≡ drop k c.args.answers.now) e at.invariant.1;
+      sheet = at.invariant.0;
       played = played;
       goes_on = goes_through st hd (take n acts) (take n at.answers) c.args.self.now at.self played;
     }

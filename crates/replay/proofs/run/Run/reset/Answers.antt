@@ -1,4 +1,4 @@
-use Rattle.std.proofs.Common.{is_ok, ap}
+use Rattle.std.proofs.Common.{◌∷◌, is_ok, ap}
 use Rattle.runlaw.specs.History.{Reset}
 use Rattle.replay.specs.declared.run.Run.{Run}
 use Rattle.replay.proofs.Following.{goes_on_by, refusal_counted}
@@ -14,10 +14,13 @@ returns g c =
     let colour = c.look-view.result.colour in
     let shown = ap (λ v. v.colour) c.look-view.ensures.view in
     let behind : Run g.row.S.Denot g.row.H.Denot = record { station = c.reset-result.new.self; observer = c.counted_unless-self.result } in
+    let goes_on =
+    goes_on_by st hd before behind done.sheet colour shown (Reset a) done.lived
+    (refusal_counted st hd before behind done.sheet colour shown c.is_ok.result (is_ok a) c.is_ok.ensures.value c.counted_unless-self.ensures) in
     record {
+      sheet = done.sheet;
       played = record { sheet = done.sheet; lived = done.lived };
       view = c.look-view.ensures.view;
-      goes_on =
-          goes_on_by st hd before behind done.sheet colour shown (Reset a) done.lived
-          (refusal_counted st hd before behind done.sheet colour shown c.is_ok.result (is_ok a) c.is_ok.ensures.value c.counted_unless-self.ensures);
+      goes_on = goes_on;
+      looked = λ s h ran. c.look-view.ensures.looked s (Reset a colour ∷ h) (goes_on s h ran).lived;
     }

@@ -1,4 +1,4 @@
-use Rattle.std.proofs.Common.{ap}
+use Rattle.std.proofs.Common.{◌∷◌, ap}
 use Rattle.runlaw.specs.History.{Second}
 use Rattle.replay.specs.declared.run.Run.{Run}
 use Rattle.replay.specs.Acts.{given_in}
@@ -16,10 +16,13 @@ returns g c =
     let colour = c.look-view.result.colour in
     let shown = ap (λ v. v.colour) c.look-view.ensures.view in
     let behind : Run g.row.S.Denot g.row.H.Denot = record { station = c.do_second-outcome.new.station; observer = c.after_second-self.result } in
+    let goes_on =
+    goes_on_by st hd before behind done.sheet colour shown (Second given a) done.lived
+    (second_counted st hd before behind done.sheet colour shown given a c.is_some.result c.is_some.ensures c.after_second-self.ensures) in
     record {
+      sheet = done.sheet;
       played = done;
       view = c.look-view.ensures.view;
-      goes_on =
-          goes_on_by st hd before behind done.sheet colour shown (Second given a) done.lived
-          (second_counted st hd before behind done.sheet colour shown given a c.is_some.result c.is_some.ensures c.after_second-self.ensures);
+      goes_on = goes_on;
+      looked = λ s h ran. c.look-view.ensures.looked s (Second given a colour ∷ h) (goes_on s h ran).lived;
     }
