@@ -1,5 +1,6 @@
 -- What it means that acts were played on a station, with an observer beside it.
 use Rattle.std.specs.Prelude.{◌≡◌, ℕ, List, [], ◌∷◌, Result}
+use Rattle.sheet.specs.declared.sheet.Sheet.{Sheet}
 use Rattle.strategy.specs.declared.strategy.Strategy.{Ghosts as StrategyMeaning}
 use Rattle.lamps.specs.declared.head.LampHead.{Ghosts as HeadMeaning}
 use Rattle.loops.specs.Rules.{Second as Readings}
@@ -71,3 +72,10 @@ module _ {S H : Type 0} (st : StrategyMeaning S) (hd : HeadMeaning H) where
   Played before [] (r ∷ rs) behind = ⊥
   Played before (x ∷ xs) [] behind = ⊥
   Played before (x ∷ xs) (r ∷ rs) behind = (between : Run S H) × ActPlayed before x r between × Played between xs rs behind
+
+  -- acts in their order with their answers, from a run that was just opened on sheet f with the strategy's state s
+  pub record PlayedThrough (f : Sheet) (s : S) (xs : List Act) (rs : List Answered) (behind : Run S H) : Type 0 where
+    pub opened : Run S H
+    pub sheet : opened.station.sheet ≡ f
+    pub begun : RanThrough opened s []
+    pub played : Played opened xs rs behind

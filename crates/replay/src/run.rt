@@ -4,7 +4,7 @@ ghost use Rattle.records.specs.Rings.{kept_by};
 ghost use Rattle.control.specs.Lines.{buffer_after};
 ghost use Rattle.runlaw.specs.History.{History};
 ghost use Rattle.replay.specs.Acts.{WordGiven, buffer_for, replied_in, extended};
-ghost use Rattle.replay.specs.Played.{SecondPlayed, LinePlayed, RanThrough, ActPlayed, Played};
+ghost use Rattle.replay.specs.Played.{SecondPlayed, LinePlayed, RanThrough, ActPlayed, Played, PlayedThrough};
 ghost use Rattle.runlaw.specs.Log.{Log, log};
 ghost use Rattle.observer.specs.Totals.{observer_of, unless_taken, totals_of, refusals_in};
 ghost use Rattle.station.specs.Station.{Looked, view_of};
@@ -234,6 +234,36 @@ impl<S: Strategy, H: LampWords> Run<S, H> {
             Looked S.Strategy H.LampHead self.now.station result s h }
     {
         self.station.look()
+    }
+
+    /// Opens a run on an accepted sheet, plays acts as `play` does, as many as have a place for their answer, and looks.
+    /// Whatever the strategy and the head, the promises hold over exactly these acts with these answers
+    /// (docs/RULES.md, "Promises").
+    pub fn played_through(
+        sheet: Sheet,
+        strategy: S,
+        head: H,
+        acts: &[Act<'_>],
+        answers: &mut [Answered],
+    ) -> (Run<S, H>, View)
+        ensures sheet { result.0.station.sheet ≡ sheet }
+        ensures rest { let n = min (length acts.now) (length answers.old) in
+            drop n answers.new ≡ drop n answers.old }
+        ensures played { let n = min (length acts.now) (length answers.old) in
+            PlayedThrough S.Strategy H.LampHead sheet strategy
+            (take n acts.now) (take n answers.new) result.0 }
+        ensures view { result.1 ≡ view_of H.LampHead result.0.station }
+        ensures ran { let n = min (length acts.now) (length answers.old) in
+            RanThrough S.Strategy H.LampHead result.0 strategy
+            (extended (take n acts.now) (take n answers.new) []) }
+        ensures looked { let n = min (length acts.now) (length answers.old) in
+            Looked S.Strategy H.LampHead result.0.station result.1 strategy
+            (extended (take n acts.now) (take n answers.new) []) }
+    {
+        let mut run = Run::open(sheet, strategy, head);
+        run.play(acts, answers);
+        let view = run.look();
+        (run, view)
     }
 
     /// The totals of the run so far, as the closing row of its log has them (docs/TRIAL.md, "The log").
