@@ -1,71 +1,52 @@
-// Command lines with what each gives, worked out from the rules.
-use orders::{Order, Refusal, read_order};
+// Command lines, and what each gives.
+use crate::tables::gives;
+use orders::{Order, OrderFault, Refusal, read_order};
 use std::process::Abort;
 
-// What a line gives: its order, or the refusal that it is told by.
-fn given(line: &[u8]) -> Result<Order, Refusal> {
-    match read_order(line) {
-        Ok(order) => Ok(order),
-        Err(fault) => Err(fault.refusal()),
-    }
-}
-
-// Each line is refused with this number and its value.
-fn refused(rt: &impl Abort, number: u32, lines: &[(&[u8], usize)]) {
-    for (line, value) in lines {
-        let expected = Refusal {
-            number,
-            value: Some(*value),
-        };
-        assert_eq!(rt; given(line), Err(expected));
-    }
-}
-
-// The six lines, close together and far apart, and cycles at both limits.
-const TAKEN: [(&[u8], Order); 16] = [
-    (b"PA, AM=PIL, AF=PF/0", Order::Central),
-    (b"PA, AM=PIL, AF=PF/1", Order::Local),
-    (b"PA, AM=F.1, CY=60", Order::Cycle(60)),
-    (b"PM, EXTNORM", Order::Off),
-    (b"P", Order::Status),
-    (b"PE", Order::Cycles),
-    (b"PA,AM=PIL,AF=PF/0", Order::Central),
-    (b"  PA , AM = PIL , AF = PF / 1  ", Order::Local),
-    (b" PA,AM  =F.1,  CY= 7 ", Order::Cycle(7)),
-    (b"PM ,EXTNORM   ", Order::Off),
-    (b"   P", Order::Status),
-    (b"P ", Order::Status),
-    (b" PE ", Order::Cycles),
-    (b"PA, AM=F.1, CY=4", Order::Cycle(4)),
-    (b"PA, AM=F.1, CY=120", Order::Cycle(120)),
-    (b"PA, AM=F.1, CY=0004", Order::Cycle(4)),
-];
-
-// Lines of 80 bytes.
-const LONG: [(&[u8], Order); 5] = [
+// The six lines, close together and far apart, and cycles at both limits, each with its order as the table of the six
+// lines says.
+const TAKEN: [(&[u8], Result<Order, OrderFault>); 21] = [
+    (b"PA, AM=PIL, AF=PF/0", Ok(Order::Central)),
+    (b"PA, AM=PIL, AF=PF/1", Ok(Order::Local)),
+    (b"PA, AM=F.1, CY=60", Ok(Order::Cycle(60))),
+    (b"PM, EXTNORM", Ok(Order::Off)),
+    (b"P", Ok(Order::Status)),
+    (b"PE", Ok(Order::Cycles)),
+    (b"PA,AM=PIL,AF=PF/0", Ok(Order::Central)),
+    (b"  PA , AM = PIL , AF = PF / 1  ", Ok(Order::Local)),
+    (b" PA,AM  =F.1,  CY= 7 ", Ok(Order::Cycle(7))),
+    (b"PM ,EXTNORM   ", Ok(Order::Off)),
+    (b"   P", Ok(Order::Status)),
+    (b"P ", Ok(Order::Status)),
+    (b" PE ", Ok(Order::Cycles)),
+    (b"PA, AM=F.1, CY=4", Ok(Order::Cycle(4))),
+    (b"PA, AM=F.1, CY=120", Ok(Order::Cycle(120))),
+    (b"PA, AM=F.1, CY=0004", Ok(Order::Cycle(4))),
+    // lines of 80 bytes
     (
         b"P                                                                               ",
-        Order::Status,
+        Ok(Order::Status),
     ),
     (
         b"                                                                              PE",
-        Order::Cycles,
+        Ok(Order::Cycles),
     ),
     (
         b"PA,AM=F.1,CY=0000000000000000000000000000000000000000000000000000000000000000120",
-        Order::Cycle(120),
+        Ok(Order::Cycle(120)),
     ),
     (
         b"PA, AM=F.1, CY=00000000000000000000000000000000000000000000000000000000000000009",
-        Order::Cycle(9),
+        Ok(Order::Cycle(9)),
     ),
     (
         b"PA, AM=PIL, AF=PF/0                                                             ",
-        Order::Central,
+        Ok(Order::Central),
     ),
 ];
 
-// Empty lines and lines of more than 80 bytes, whatever else is wrong with them.
+// Empty lines and lines of more than 80 bytes, whatever else is wrong with them. This table and those below have the
+// value that each line is refused with, worked out by hand from the table of faults: here the number of bytes.
 const LENGTH: [(&[u8], usize); 5] = [
     (b"", 0),
     (
@@ -86,7 +67,8 @@ const LENGTH: [(&[u8], usize); 5] = [
     ),
 ];
 
-// Bytes of no token and no space: lower case, the neighbours of the letters and digits, bytes above 127. They come before any token.
+// Bytes of no token and no space, with their places: lower case, the neighbours of the letters and digits, bytes above
+// 127. They come before any token.
 const BYTE: [(&[u8], usize); 19] = [
     (b"p", 0),
     (b"pa, AM=PIL, AF=PF/0", 0),
@@ -112,7 +94,7 @@ const BYTE: [(&[u8], usize); 19] = [
     ),
 ];
 
-// Lines that stop early, spaces only among them.
+// Lines that stop early, spaces only among them, with the place of their end.
 const EARLY: [(&[u8], usize); 19] = [
     (b" ", 1),
     (
@@ -138,7 +120,7 @@ const EARLY: [(&[u8], usize); 19] = [
     (b"PM,", 3),
 ];
 
-// A token that no line has after those before it, at each place.
+// A token that no line has after those before it, at each place, with its place.
 const TOKEN: [(&[u8], usize); 35] = [
     (b"X", 0),
     (b"  X", 2),
@@ -177,7 +159,7 @@ const TOKEN: [(&[u8], usize); 35] = [
     (b"PM, EXT NORM", 4),
 ];
 
-// A token behind a whole line. It comes before the range of a cycle.
+// A token behind a whole line, with its place. It comes before the range of a cycle.
 const TRAILING: [(&[u8], usize); 10] = [
     (b"P A", 2),
     (b"P, P", 1),
@@ -191,7 +173,7 @@ const TRAILING: [(&[u8], usize); 10] = [
     (b"PA, AM=F.1, CY=3,", 16),
 ];
 
-// Cycles outside 4 to 120, with values of any length.
+// Cycles outside 4 to 120, with values of any length, and the places of these.
 const CYCLE: [(&[u8], usize); 10] = [
     (b"PA, AM=F.1, CY=0", 15),
     (b"PA, AM=F.1, CY=3", 15),
@@ -208,34 +190,27 @@ const CYCLE: [(&[u8], usize); 10] = [
     ),
 ];
 
-#[test]
-fn taken_lines(rt: HostRuntime) {
-    for (line, order) in TAKEN {
-        assert_eq!(rt; given(line), Ok(order));
-    }
-    for (line, order) in LONG {
-        assert_eq!(rt; given(line), Ok(order));
+// Each line is refused with this number and its value.
+fn refused(rt: &impl Abort, number: u32, lines: &[(&[u8], usize)]) {
+    for (line, value) in lines {
+        let expected = Refusal {
+            number,
+            value: Some(*value),
+        };
+        match read_order(line) {
+            Ok(order) => panic!(rt; "{line:?} gives {order:?}"),
+            Err(fault) => assert_eq!(rt; fault.refusal(), expected, "at {line:?}"),
+        }
     }
 }
 
 #[test]
-fn wrong_lengths(rt: HostRuntime) {
+fn command_lines(rt: HostRuntime) {
+    gives(&rt, |line| read_order(line), &TAKEN);
     refused(&rt, 4, &LENGTH);
-}
-
-#[test]
-fn wrong_bytes(rt: HostRuntime) {
     refused(&rt, 5, &BYTE);
-}
-
-#[test]
-fn wrong_tokens(rt: HostRuntime) {
     refused(&rt, 6, &EARLY);
     refused(&rt, 6, &TOKEN);
     refused(&rt, 6, &TRAILING);
-}
-
-#[test]
-fn wrong_cycles(rt: HostRuntime) {
     refused(&rt, 7, &CYCLE);
 }

@@ -1,8 +1,9 @@
 // Copies of what a ring keeps into lists of every length, at every place.
 use records::{Ring, copy_front, copy_kept};
 
-// The length of a list of nines, the place from which 3, 4 and 5 are copied into it, how many are, and six nines of which
-// that list is the front.
+// The length of a list of nines, the place from which 3, 4 and 5 are copied into it, how many are, and six nines of
+// which that list is the front. Worked out by hand from the rule of the copy: as many as there is room for, oldest
+// first.
 const COPIES: [(usize, usize, usize, [u32; 6]); 35] = [
     (0, 0, 0, [9, 9, 9, 9, 9, 9]),
     (0, 1, 0, [9, 9, 9, 9, 9, 9]),
@@ -48,15 +49,16 @@ fn at_every_place(rt: HostRuntime) {
     for n in 1..6 {
         ring.put(n);
     }
-    for (length, from, many, wanted) in COPIES {
+    for (length, from, many, wanted) in &COPIES {
         let mut nines = [9; 6];
-        assert!(rt; length <= 6);
-        assert_eq!(rt; ring.copy_to(&mut nines[0..length], from), many);
-        assert_eq!(rt; nines, wanted);
+        assert!(rt; *length <= 6);
+        assert_eq!(rt; ring.copy_to(&mut nines[0..*length], *from), *many);
+        assert_eq!(rt; nines, *wanted);
     }
 }
 
-// Four places that hold 1 to 4: the two numbers of a ring over them, and what it keeps, followed by nines.
+// Four places that hold 1 to 4: the two numbers of a ring over them, and what it keeps, followed by nines. Worked out
+// by hand from the rule of a ring: the newest, oldest first.
 const KEPT: [(usize, u32, usize, [u32; 5]); 9] = [
     (0, 0, 0, [9, 9, 9, 9, 9]),
     (1, 1, 1, [1, 9, 9, 9, 9]),
@@ -74,14 +76,15 @@ const KEPT: [(usize, u32, usize, [u32; 5]); 9] = [
 #[test]
 fn of_plain_numbers(rt: HostRuntime) {
     let places = [1, 2, 3, 4];
-    for (next, put, many, wanted) in KEPT {
+    for (next, put, many, wanted) in &KEPT {
         let mut list = [9; 5];
-        assert_eq!(rt; copy_kept(&places, next, put, &mut list, 0), many);
-        assert_eq!(rt; list, wanted);
+        assert_eq!(rt; copy_kept(&places, *next, *put, &mut list, 0), *many);
+        assert_eq!(rt; list, *wanted);
     }
 }
 
-// How much of 1, 2, 3 there is, how long a list of nines, how many are copied over its front, and what four nines then are.
+// How much of 1, 2, 3 there is, how long a list of nines, how many are copied over its front, and what four nines then
+// are. Worked out by hand: as many as both have.
 const FRONTS: [(usize, usize, usize, [u32; 4]); 7] = [
     (0, 0, 0, [9, 9, 9, 9]),
     (0, 4, 0, [9, 9, 9, 9]),
@@ -95,10 +98,10 @@ const FRONTS: [(usize, usize, usize, [u32; 4]); 7] = [
 #[test]
 fn over_the_front(rt: HostRuntime) {
     let source = [1, 2, 3];
-    for (there, room, many, wanted) in FRONTS {
+    for (there, room, many, wanted) in &FRONTS {
         let mut nines = [9; 4];
-        assert!(rt; there <= 3 && room <= 4);
-        assert_eq!(rt; copy_front(&source[0..there], &mut nines[0..room]), many);
-        assert_eq!(rt; nines, wanted);
+        assert!(rt; *there <= 3 && *room <= 4);
+        assert_eq!(rt; copy_front(&source[0..*there], &mut nines[0..*room]), *many);
+        assert_eq!(rt; nines, *wanted);
     }
 }

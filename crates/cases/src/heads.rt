@@ -1,26 +1,26 @@
 // Lamp heads: orders and cuts, and words through both heads.
 ghost use Rattle.std.specs.Prelude.{◌≡◌, ◌%◌};
 
+use crate::tables::gives;
 use lamps::{Colour, CurrentHead, Lamp, LampHead, LampWords, RelayHead};
+use records::TripCode;
 use std::process::Abort;
 
 #[test]
-fn sets_of_colours(rt: HostRuntime) {
-    for (colour, lit) in [
-        (Colour::Dark, 0),
-        (Colour::Red, 1),
-        (Colour::FixedAmber, 2),
-        (Colour::FlashingAmber, 4),
-    ] {
-        assert_eq!(rt; colour.lamps(), lit);
-    }
-    for (lamp, number) in [
-        (Lamp::Red, 1),
-        (Lamp::FixedAmber, 2),
-        (Lamp::FlashingAmber, 4),
-    ] {
-        assert_eq!(rt; lamp.number(), number);
-    }
+fn numbers_of_colours_lamps_and_trips(rt: HostRuntime) {
+    let lit = [
+        Colour::Dark.lamps(),
+        Colour::Red.lamps(),
+        Colour::FixedAmber.lamps(),
+        Colour::FlashingAmber.lamps(),
+    ];
+    let lamps = [
+        Lamp::Red.number(),
+        Lamp::FixedAmber.number(),
+        Lamp::FlashingAmber.number(),
+    ];
+    let codes = [TripCode::NotLit.number(), TripCode::Unwanted.number()];
+    assert_eq!(rt; (lit, lamps, codes), ([0, 1, 2, 4], [1, 2, 4], [1, 2]));
 }
 
 // A call on a head.
@@ -31,7 +31,8 @@ enum Call {
     Restore,
 }
 
-// Calls, each with the colour that the head means after it.
+// Calls, each with the colour that the head means after it, worked out by hand from the rule of a cut: dark until it
+// ends.
 const CALLS: [(Call, Colour); 16] = [
     (Call::Order(Colour::Red), Colour::Red),
     (Call::Order(Colour::FlashingAmber), Colour::FlashingAmber),
@@ -55,21 +56,14 @@ const CALLS: [(Call, Colour); 16] = [
 fn colours_are<H: LampHead>(rt: &impl Abort, head: &mut H, word: u32) {
     assert_eq!(rt; head.ordered(), Colour::Dark);
     let lit = head.read(word);
-    for (call, colour) in CALLS {
-        match call {
+    for (call, colour) in &CALLS {
+        match *call {
             Call::Order(chosen) => head.order(chosen),
             Call::Cut => head.cut(),
             Call::Restore => head.restore(),
         }
-        assert_eq!(rt; head.ordered(), colour);
-        assert_eq!(rt; head.read(word), lit);
+        assert_eq!(rt; (head.ordered(), head.read(word)), (*colour, lit));
     }
-}
-
-#[test]
-fn calls_on_both_heads(rt: HostRuntime) {
-    colours_are(&rt, &mut RelayHead::new(), 5);
-    colours_are(&rt, &mut CurrentHead::new(), 6_553_600);
 }
 
 // The set that a head reads of its own word for a set.
@@ -79,40 +73,45 @@ fn read_back<H: LampWords>(head: &H, lit: u32) -> u32
     head.read(head.word_for(lit))
 }
 
-#[test]
-fn every_set_has_a_word(rt: HostRuntime) {
-    let relay = RelayHead::new();
-    let current = CurrentHead::new();
-    for lit in 0..8 {
-        assert_eq!(rt; read_back(&relay, lit), lit);
-        assert_eq!(rt; read_back(&current, lit), lit);
-    }
-    for (above, lit) in [(8, 0), (13, 5), (1_000_007, 7), (4_294_967_295, 7)] {
-        assert_eq!(rt; read_back(&relay, above), lit);
-        assert_eq!(rt; read_back(&current, above), lit);
-    }
-}
+// Sets, and numbers above them, with the set that each stands for: the remainder by 8, worked out by hand.
+const SETS: [(u32, u32); 12] = [
+    (0, 0),
+    (1, 1),
+    (2, 2),
+    (3, 3),
+    (4, 4),
+    (5, 5),
+    (6, 6),
+    (7, 7),
+    (8, 0),
+    (13, 5),
+    (1_000_007, 7),
+    (4_294_967_295, 7),
+];
+
+// Words of the relay head, with the set of their lowest three bits, worked out by hand.
+const RELAY_WORDS: [(u32, u32); 5] = [
+    (7, 7),
+    (8, 0),
+    (15, 7),
+    (2_147_483_648, 0),
+    (4_294_967_295, 7),
+];
 
 // Four hundred words over the whole range: the sum of the lowest three bits' values.
 #[test]
-fn words_of_the_relay_head(rt: HostRuntime) {
-    let head = RelayHead::new();
+fn relay_head(rt: HostRuntime) {
+    let mut head = RelayHead::new();
+    colours_are(&rt, &mut head, 5);
+    gives(&rt, |lit| read_back(&head, lit), &SETS);
+    gives(&rt, |word| head.read(word), &RELAY_WORDS);
     for step in 0..400u32 {
         let word = step.wrapping_mul(10_764_287);
         assert_eq!(rt; head.read(word), (word & 1) | (word & 2) | (word & 4));
     }
-    for (word, lit) in [
-        (7, 7),
-        (8, 0),
-        (15, 7),
-        (2_147_483_648, 0),
-        (4_294_967_295, 7),
-    ] {
-        assert_eq!(rt; head.read(word), lit);
-    }
 }
 
-// Currents of a lamp, each with whether it is lit.
+// Currents of a lamp, each with whether it is lit, worked out by hand from the rule of the currents: from 20 on.
 const CURRENTS: [(u8, bool); 6] = [
     (0, false),
     (19, false),
@@ -124,16 +123,18 @@ const CURRENTS: [(u8, bool); 6] = [
 
 // Each current of each lamp, whatever the highest byte: 432 words.
 #[test]
-fn words_of_the_current_head(rt: HostRuntime) {
-    let head = CurrentHead::new();
-    for (red, red_lit) in CURRENTS {
-        for (fixed, fixed_lit) in CURRENTS {
-            for (flashing, flashing_lit) in CURRENTS {
-                let lit = u32::from(red_lit)
-                    + 2 * u32::from(fixed_lit)
-                    + 4 * u32::from(flashing_lit);
+fn current_head(rt: HostRuntime) {
+    let mut head = CurrentHead::new();
+    colours_are(&rt, &mut head, 6_553_600);
+    gives(&rt, |lit| read_back(&head, lit), &SETS);
+    for (red, red_lit) in &CURRENTS {
+        for (fixed, fixed_lit) in &CURRENTS {
+            for (flashing, flashing_lit) in &CURRENTS {
+                let lit = u32::from(*red_lit)
+                    + 2 * u32::from(*fixed_lit)
+                    + 4 * u32::from(*flashing_lit);
                 for highest in [0, 255] {
-                    let word = u32::from_le_bytes([red, fixed, flashing, highest]);
+                    let word = u32::from_le_bytes([*red, *fixed, *flashing, highest]);
                     assert_eq!(rt; head.read(word), lit);
                 }
             }

@@ -16,8 +16,6 @@ mod heads;
 #[cfg(test)]
 mod lists;
 #[cfg(test)]
-mod numbers;
-#[cfg(test)]
 mod periods;
 #[cfg(test)]
 mod recorded;
@@ -26,8 +24,12 @@ mod replies;
 #[cfg(test)]
 mod rings;
 #[cfg(test)]
+mod row_macros;
+#[cfg(test)]
 mod rows;
 #[cfg(test)]
 mod sheets;
 #[cfg(test)]
 mod strategies;
+#[cfg(test)]
+mod tables;

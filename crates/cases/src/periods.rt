@@ -1,426 +1,272 @@
-// Periods of lane readings, with flow and occupancy worked out by hand.
+// Periods of lane readings: when they close, and with which flow and occupancy.
+use crate::row_macros::lane;
+use crate::tables::gives;
 use loops::{LaneReading, PeriodTally};
-use sheet::{Draft, RefusedDraft, Sheet};
+use sheet::Draft;
 use std::process::Abort;
-use std::test::Fail;
 use strategy::Measure;
 
-// The figures of a sheet that a case chooses.
-#[derive(Clone, Copy)]
-struct Chosen {
-    lanes: u32,
-    interval_seconds: u32,
-    period_intervals: u32,
-    availability: u32,
-    overcount: u32,
-}
-
-// One lane, periods of one interval of 10 seconds, availability 80, overcount 100.
-const PLAIN: Chosen = Chosen {
-    lanes: 1,
-    interval_seconds: 10,
-    period_intervals: 1,
-    availability: 80,
-    overcount: 100,
-};
-
-// A sheet with the chosen figures; the others are any that are accepted.
-fn sheet_with(f: Chosen) -> Result<Sheet, RefusedDraft> {
-    Draft::new([
-        1,
-        60,
-        5,
-        10,
-        3,
-        3,
-        3,
-        300,
-        10,
-        200,
-        10,
-        5,
-        f.lanes,
-        f.interval_seconds,
-        f.period_intervals,
-        f.availability,
-        f.overcount,
-        70,
-        250,
-        180,
-        900,
-        600,
-    ])
-    .accept()
-}
-
-// A tally before its first second.
-fn tally_with(f: Chosen) -> Result<PeriodTally, Fail> {
-    let sheet = sheet_with(f)?;
-    Ok(PeriodTally::new(&sheet))
-}
-
-// A reading: vehicles seen, those of them sound, and busy milliseconds.
-fn lane(seen: u32, sound: u32, busy_ms: u32) -> LaneReading {
-    LaneReading {
-        seen,
-        sound,
-        busy_ms,
-    }
-}
-
 // A close with this measure.
-fn measured(flow: u32, occupancy_permille: u32) -> Option<Option<Measure>> {
-    Some(Some(Measure {
-        flow,
-        occupancy_permille,
-    }))
+macro_rules! measured {
+    ($flow:expr, $occupancy_permille:expr) => {
+        Some(Some(Measure {
+            flow: $flow,
+            occupancy_permille: $occupancy_permille,
+        }))
+    };
 }
 
-// Tells the same readings for so many seconds, after none of which the period may close.
-fn run(rt: &impl Abort, tally: &mut PeriodTally, seconds: u32, readings: &[LaneReading]) {
-    for _ in 0..seconds {
-        assert_eq!(rt; tally.second(readings), None);
-    }
+// What a second answers: nothing while its period runs, else the measure of the period that it closes, or no measure.
+type Answer = Option<Option<Measure>>;
+
+const OPEN: Answer = None;
+
+const NO_MEASURE: Answer = Some(None);
+
+const SOUND: LaneReading = lane!(1, 1, 100);
+
+const UNSOUND: LaneReading = lane!(0, 0, 100);
+
+// A step of a table. It may begin a new tally, with a name and figures 13 to 17 of its sheet (lanes, seconds of an
+// interval, intervals of a period, availability and overcount). Or it is so many seconds with the same readings, and
+// what the last of them answers: those before it leave the period open.
+enum Step {
+    Sheet(&'static str, [u32; 5]),
+    Seconds(u32, &'static [LaneReading], Answer),
 }
 
-// A period of one lane and ten seconds: its first second, each of the other nine, and what it closes with.
-#[derive(Clone, Copy)]
-struct Case {
-    what: &'static str,
-    availability: u32,
-    overcount: u32,
-    first: LaneReading,
-    others: LaneReading,
-    answer: Option<Option<Measure>>,
+// Readings at each limit of their range, and just past it, worked out by hand from the rule of a reading in range.
+const RANGES: [(LaneReading, bool); 8] = [
+    (lane!(0, 0, 0), true),
+    (lane!(20, 20, 1_000), true),
+    (lane!(20, 0, 1_000), true),
+    (lane!(21, 20, 1_000), false),
+    (lane!(20, 21, 1_000), false),
+    (lane!(3, 4, 0), false),
+    (lane!(4, 3, 0), true),
+    (lane!(20, 20, 1_001), false),
+];
+
+// Cases one after another, each from its new tally on. Flow and occupancy are worked out by hand from the rules of
+// intervals and measures, as the comments say.
+const STEPS: [Step; 115] = [
+    // One lane and one interval of ten seconds, of which the first alone is at a limit of the readings or past it.
+    // 2 + 9 seen; (300 + 900) / 10
+    Step::Sheet("all in range", [1, 10, 1, 80, 100]),
+    Step::Seconds(1, &[lane!(2, 2, 300)], OPEN),
+    Step::Seconds(9, &[SOUND], measured!(11, 120)),
+    // 20 + 9 seen
+    Step::Sheet("20 seen", [1, 10, 1, 80, 100]),
+    Step::Seconds(1, &[lane!(20, 20, 300)], OPEN),
+    Step::Seconds(9, &[SOUND], measured!(29, 120)),
+    Step::Sheet("21 seen", [1, 10, 1, 80, 100]),
+    Step::Seconds(1, &[lane!(21, 21, 300)], OPEN),
+    Step::Seconds(9, &[SOUND], NO_MEASURE),
+    Step::Sheet("more sound than seen", [1, 10, 1, 80, 100]),
+    Step::Seconds(1, &[lane!(2, 3, 300)], OPEN),
+    Step::Seconds(9, &[SOUND], NO_MEASURE),
+    // (1,000 + 900) / 10
+    Step::Sheet("busy throughout", [1, 10, 1, 80, 100]),
+    Step::Seconds(1, &[lane!(2, 2, 1_000)], OPEN),
+    Step::Seconds(9, &[SOUND], measured!(11, 190)),
+    Step::Sheet("busy for more than a second", [1, 10, 1, 80, 100]),
+    Step::Seconds(1, &[lane!(2, 2, 1_001)], OPEN),
+    Step::Seconds(9, &[SOUND], NO_MEASURE),
+    // Of 11 + 9 = 20 seen, 80 in a hundred are 16, and more than 16 must be sound.
+    // 7 + 9 sound: 1,600 is not above 1,600
+    Step::Sheet("16 of 20", [1, 10, 1, 80, 100]),
+    Step::Seconds(1, &[lane!(11, 7, 300)], OPEN),
+    Step::Seconds(9, &[SOUND], NO_MEASURE),
+    // 8 + 9 sound: 1,700 is above 1,600
+    Step::Sheet("17 of 20", [1, 10, 1, 80, 100]),
+    Step::Seconds(1, &[lane!(11, 8, 300)], OPEN),
+    Step::Seconds(9, &[SOUND], measured!(20, 120)),
+    // 0 is not above 0
+    Step::Sheet("availability 0, none sound", [1, 10, 1, 0, 100]),
+    Step::Seconds(10, &[lane!(1, 0, 100)], NO_MEASURE),
+    // 100 is above 0; 10 seen; 1,000 / 10
+    Step::Sheet("availability 0, one sound", [1, 10, 1, 0, 100]),
+    Step::Seconds(1, &[SOUND], OPEN),
+    Step::Seconds(9, &[lane!(1, 0, 100)], measured!(10, 100)),
+    // no interval is too bad where nothing was seen: 0 seen; 0 / 10
+    Step::Sheet("nothing seen", [1, 10, 1, 99, 100]),
+    Step::Seconds(10, &[lane!(0, 0, 0)], measured!(0, 0)),
+    // 2 + 9 = 11 seen
+    Step::Sheet("flow at the overcount", [1, 10, 1, 80, 11]),
+    Step::Seconds(1, &[lane!(2, 2, 300)], OPEN),
+    Step::Seconds(9, &[SOUND], measured!(11, 120)),
+    Step::Sheet("flow above the overcount", [1, 10, 1, 80, 10]),
+    Step::Seconds(1, &[lane!(2, 2, 300)], OPEN),
+    Step::Seconds(9, &[SOUND], NO_MEASURE),
+    // 10,000 / 10
+    Step::Sheet("occupancy 1,000", [1, 10, 1, 80, 100]),
+    Step::Seconds(10, &[lane!(1, 1, 1_000)], NO_MEASURE),
+    // 9,999 / 10
+    Step::Sheet("occupancy 999", [1, 10, 1, 80, 100]),
+    Step::Seconds(1, &[lane!(1, 1, 999)], OPEN),
+    Step::Seconds(9, &[lane!(1, 1, 1_000)], measured!(10, 999)),
+    Step::Sheet("flow, never busy", [1, 10, 1, 80, 100]),
+    Step::Seconds(10, &[lane!(1, 1, 0)], NO_MEASURE),
+    // 9 / 10 is 0
+    Step::Sheet("flow, occupancy rounded to 0", [1, 10, 1, 80, 100]),
+    Step::Seconds(1, &[lane!(1, 1, 9)], OPEN),
+    Step::Seconds(9, &[lane!(1, 1, 0)], NO_MEASURE),
+    // 10 / 10
+    Step::Sheet("flow, occupancy 1", [1, 10, 1, 80, 100]),
+    Step::Seconds(1, &[lane!(1, 1, 10)], OPEN),
+    Step::Seconds(9, &[lane!(1, 1, 0)], measured!(10, 1)),
+    // 0 seen; 1,000 / 10
+    Step::Sheet("occupancy without flow", [1, 10, 1, 80, 100]),
+    Step::Seconds(10, &[UNSOUND], NO_MEASURE),
+    // 1 seen; 1,000 / 10
+    Step::Sheet("occupancy with one vehicle", [1, 10, 1, 80, 100]),
+    Step::Seconds(1, &[SOUND], OPEN),
+    Step::Seconds(9, &[UNSOUND], measured!(1, 100)),
+    // Lane 1: 10 seen, 2,509 busy, so 250; then 20 seen, 4,050 busy, so 405: flow 30, occupancy 655 / 2, so 327.
+    // Lane 2: 10 seen, 1,070 busy, so 107; then 10 seen, 3,340 busy, so 334: flow 20, occupancy 441 / 2, so 220.
+    // Together: flow 50, occupancy 547 / 2, so 273.
+    Step::Sheet("two lanes", [2, 10, 2, 80, 100]),
+    Step::Seconds(9, &[lane!(1, 1, 250), lane!(1, 1, 107)], OPEN),
+    Step::Seconds(1, &[lane!(1, 1, 259), lane!(1, 1, 107)], OPEN),
+    Step::Seconds(
+        10,
+        &[lane!(2, 2, 405), lane!(1, 1, 334)],
+        measured!(50, 273),
+    ),
+    // 59 + 19 x 240 = 4,619 busy in 20 seconds: 230.95, so 230. 20 seen.
+    Step::Sheet("occupancy rounds down", [1, 20, 1, 80, 100]),
+    Step::Seconds(1, &[lane!(1, 1, 59)], OPEN),
+    Step::Seconds(19, &[lane!(1, 1, 240)], measured!(20, 230)),
+    // Each interval is judged by itself: 8 of 10 sound leave the first invalid, though 28 of 30 are above 80 in a
+    // hundred.
+    Step::Sheet("one interval invalid", [1, 10, 2, 80, 100]),
+    Step::Seconds(8, &[SOUND], OPEN),
+    Step::Seconds(2, &[lane!(1, 0, 100)], OPEN),
+    Step::Seconds(10, &[lane!(2, 2, 100)], NO_MEASURE),
+    // One second with a wrong number of readings leaves a sheet of two lanes without a measure.
+    Step::Sheet("no reading", [2, 10, 1, 80, 100]),
+    Step::Seconds(4, &[SOUND, SOUND], OPEN),
+    Step::Seconds(1, &[], OPEN),
+    Step::Seconds(5, &[SOUND, SOUND], NO_MEASURE),
+    Step::Sheet("one reading", [2, 10, 1, 80, 100]),
+    Step::Seconds(4, &[SOUND, SOUND], OPEN),
+    Step::Seconds(1, &[SOUND], OPEN),
+    Step::Seconds(5, &[SOUND, SOUND], NO_MEASURE),
+    // 10 + 10 seen; 1,000 / 10 for each lane
+    Step::Sheet("two readings", [2, 10, 1, 80, 100]),
+    Step::Seconds(4, &[SOUND, SOUND], OPEN),
+    Step::Seconds(1, &[SOUND, SOUND], OPEN),
+    Step::Seconds(5, &[SOUND, SOUND], measured!(20, 100)),
+    Step::Sheet("three readings", [2, 10, 1, 80, 100]),
+    Step::Seconds(4, &[SOUND, SOUND], OPEN),
+    Step::Seconds(1, &[SOUND, SOUND, SOUND], OPEN),
+    Step::Seconds(5, &[SOUND, SOUND], NO_MEASURE),
+    // A period closes in its last second and not before: intervals x seconds, one seen and 100 busy in each.
+    Step::Sheet("1 x 10 seconds", [1, 10, 1, 80, 900]),
+    Step::Seconds(10, &[SOUND], measured!(10, 100)),
+    Step::Seconds(10, &[SOUND], measured!(10, 100)),
+    Step::Sheet("3 x 10 seconds", [1, 10, 3, 80, 900]),
+    Step::Seconds(30, &[SOUND], measured!(30, 100)),
+    Step::Seconds(30, &[SOUND], measured!(30, 100)),
+    Step::Sheet("2 x 13 seconds", [1, 13, 2, 80, 900]),
+    Step::Seconds(26, &[SOUND], measured!(26, 100)),
+    Step::Seconds(26, &[SOUND], measured!(26, 100)),
+    Step::Sheet("15 x 60 seconds", [1, 60, 15, 80, 900]),
+    Step::Seconds(900, &[SOUND], measured!(900, 100)),
+    Step::Seconds(900, &[SOUND], measured!(900, 100)),
+    // Nothing of a period goes over into the next: none, then 20 seen with 2,000 / 10, then 10 seen with 1,000 / 10.
+    Step::Sheet("three periods", [1, 10, 1, 80, 100]),
+    Step::Seconds(9, &[lane!(5, 5, 500)], OPEN),
+    Step::Seconds(1, &[lane!(5, 6, 500)], NO_MEASURE),
+    Step::Seconds(10, &[lane!(2, 2, 200)], measured!(20, 200)),
+    Step::Seconds(10, &[SOUND], measured!(10, 100)),
+    // Lanes with 10, 20, 30 and 40 seen and occupancies 101, 202, 300 and 405.
+    // Their means: 101; 303 / 2, so 151; 603 / 3 = 201; 1,008 / 4 = 252.
+    Step::Sheet("one lane", [1, 10, 1, 80, 100]),
+    Step::Seconds(10, &[lane!(1, 1, 101)], measured!(10, 101)),
+    Step::Sheet("means of two lanes", [2, 10, 1, 80, 100]),
+    Step::Seconds(
+        10,
+        &[lane!(1, 1, 101), lane!(2, 2, 202)],
+        measured!(30, 151),
+    ),
+    Step::Sheet("means of three lanes", [3, 10, 1, 80, 100]),
+    Step::Seconds(
+        10,
+        &[lane!(1, 1, 101), lane!(2, 2, 202), lane!(3, 3, 300)],
+        measured!(60, 201),
+    ),
+    Step::Sheet("means of four lanes", [4, 10, 1, 80, 100]),
+    Step::Seconds(
+        10,
+        &[
+            lane!(1, 1, 101),
+            lane!(2, 2, 202),
+            lane!(3, 3, 300),
+            lane!(4, 4, 405),
+        ],
+        measured!(100, 252),
+    ),
+    // Whichever of the four lanes is unsound, busy without a vehicle, there is no measure.
+    Step::Sheet("first lane unsound", [4, 10, 1, 80, 100]),
+    Step::Seconds(10, &[UNSOUND, SOUND, SOUND, SOUND], NO_MEASURE),
+    Step::Sheet("second lane unsound", [4, 10, 1, 80, 100]),
+    Step::Seconds(10, &[SOUND, UNSOUND, SOUND, SOUND], NO_MEASURE),
+    Step::Sheet("third lane unsound", [4, 10, 1, 80, 100]),
+    Step::Seconds(10, &[SOUND, SOUND, UNSOUND, SOUND], NO_MEASURE),
+    Step::Sheet("fourth lane unsound", [4, 10, 1, 80, 100]),
+    Step::Seconds(10, &[SOUND, SOUND, SOUND, UNSOUND], NO_MEASURE),
+];
+
+// Figures of a sheet, any that are accepted.
+const FIGURES: [u32; 22] = [
+    1, 60, 5, 10, 3, 3, 3, 300, 10, 200, 10, 5, 1, 10, 1, 80, 100, 70, 250, 180, 900, 600,
+];
+
+// A tally before its first second, on a sheet with these figures 13 to 17.
+fn tally_on(rt: &impl Abort, chosen: &[u32; 5]) -> PeriodTally {
+    let mut figures = FIGURES;
+    figures[12..17].copy_from_slice(chosen);
+    let sheet = Draft::new(figures)
+        .accept()
+        .expect(rt, "the draft is accepted");
+    PeriodTally::new(&sheet)
 }
 
-// What a second answered is what the case says.
-fn closed_with(
+// The seconds are answered as a step says.
+fn answers_are(
     rt: &impl Abort,
-    answered: Option<Option<Measure>>,
-    answer: Option<Option<Measure>>,
+    tally: &mut PeriodTally,
+    seconds: u32,
+    readings: &[LaneReading],
+    answer: Answer,
     what: &str,
 ) {
-    assert_eq!(rt; answered, answer, "{what}");
-}
-
-// The period of the case closes in its tenth second, and as the case says.
-fn closes_as(rt: &impl Abort, case: Case) -> Result<(), Fail> {
-    let mut tally = tally_with(Chosen {
-        availability: case.availability,
-        overcount: case.overcount,
-        ..PLAIN
-    })?;
-    run(rt, &mut tally, 1, &[case.first]);
-    run(rt, &mut tally, 8, &[case.others]);
-    closed_with(rt, tally.second(&[case.others]), case.answer, case.what);
-    Ok(())
-}
-
-// A case in which nine seconds have one vehicle and 100 busy milliseconds each: 9 seen, 9 sound, 900 busy.
-fn nine_and(first: LaneReading, what: &'static str, answer: Option<Option<Measure>>) -> Case {
-    Case {
-        what,
-        availability: 80,
-        overcount: 100,
-        first,
-        others: lane(1, 1, 100),
-        answer,
+    for second in 1..=seconds {
+        let expected = if second == seconds { answer } else { OPEN };
+        assert_eq!(rt; tally.second(readings), expected, "{what}");
     }
 }
 
-// A close with no measure.
-const NONE: Option<Option<Measure>> = Some(None);
-
-// At each limit, and just past it.
-#[test]
-fn ranges(rt: HostRuntime) {
-    let cases = [
-        (lane(0, 0, 0), true),
-        (lane(20, 20, 1_000), true),
-        (lane(20, 0, 1_000), true),
-        (lane(21, 20, 1_000), false),
-        (lane(20, 21, 1_000), false),
-        (lane(3, 4, 0), false),
-        (lane(4, 3, 0), true),
-        (lane(20, 20, 1_001), false),
-    ];
-    for (reading, answer) in cases {
-        assert_eq!(rt; reading.is_in_range(), answer);
-    }
-}
-
-// The first second alone decides: a reading at a limit is summed, one past it leaves no measure.
-#[test]
-fn out_of_range(rt: HostRuntime) -> Result<(), Fail> {
-    let cases = [
-        // 2 + 9 seen; (300 + 900) / 10
-        nine_and(lane(2, 2, 300), "all in range", measured(11, 120)),
-        // 20 + 9 seen
-        nine_and(lane(20, 20, 300), "20 seen", measured(29, 120)),
-        nine_and(lane(21, 21, 300), "21 seen", NONE),
-        nine_and(lane(2, 3, 300), "more sound than seen", NONE),
-        // (1,000 + 900) / 10
-        nine_and(lane(2, 2, 1_000), "busy throughout", measured(11, 190)),
-        nine_and(lane(2, 2, 1_001), "busy for more than a second", NONE),
-    ];
-    for case in cases {
-        closes_as(&rt, case)?;
-    }
-    Ok(())
-}
-
-// Of 11 + 9 = 20 seen, 80 in a hundred are 16: more than 16 must be sound. No interval is too bad where nothing was seen.
-#[test]
-fn availability(rt: HostRuntime) -> Result<(), Fail> {
-    let none_sound = Case {
-        what: "availability 0, none sound",
-        availability: 0,
-        overcount: 100,
-        first: lane(1, 0, 100),
-        others: lane(1, 0, 100),
-        answer: NONE,
-    };
-    let cases = [
-        // 7 + 9 sound: 1,600 is not above 1,600
-        nine_and(lane(11, 7, 300), "16 of 20", NONE),
-        // 8 + 9 sound: 1,700 is above 1,600
-        nine_and(lane(11, 8, 300), "17 of 20", measured(20, 120)),
-        // 0 is not above 0
-        none_sound,
-        // 100 is above 0; 10 seen; 1,000 / 10
-        Case {
-            what: "availability 0, one sound",
-            first: lane(1, 1, 100),
-            answer: measured(10, 100),
-            ..none_sound
-        },
-        // 0 seen; 0 / 10
-        Case {
-            what: "nothing seen",
-            availability: 99,
-            first: lane(0, 0, 0),
-            others: lane(0, 0, 0),
-            answer: measured(0, 0),
-            ..none_sound
-        },
-    ];
-    for case in cases {
-        closes_as(&rt, case)?;
-    }
-    Ok(())
-}
-
-// Flow against the overcount, and flow against occupancy.
-#[test]
-fn plausibility(rt: HostRuntime) -> Result<(), Fail> {
-    let plain = nine_and(lane(2, 2, 300), "plain", measured(11, 120));
-    let full = Case {
-        others: lane(1, 1, 1_000),
-        ..plain
-    };
-    let cases = [
-        // 2 + 9 = 11 seen
-        Case {
-            what: "flow at the overcount",
-            overcount: 11,
-            ..plain
-        },
-        Case {
-            what: "flow above the overcount",
-            overcount: 10,
-            answer: NONE,
-            ..plain
-        },
-        // 10,000 / 10
-        Case {
-            what: "occupancy 1,000",
-            first: lane(1, 1, 1_000),
-            answer: NONE,
-            ..full
-        },
-        // 9,999 / 10
-        Case {
-            what: "occupancy 999",
-            first: lane(1, 1, 999),
-            answer: measured(10, 999),
-            ..full
-        },
-        Case {
-            what: "flow, never busy",
-            first: lane(1, 1, 0),
-            others: lane(1, 1, 0),
-            answer: NONE,
-            ..plain
-        },
-        // 9 / 10 is 0
-        Case {
-            what: "flow, occupancy rounded to 0",
-            first: lane(1, 1, 9),
-            others: lane(1, 1, 0),
-            answer: NONE,
-            ..plain
-        },
-        // 10 / 10
-        Case {
-            what: "flow, occupancy 1",
-            first: lane(1, 1, 10),
-            others: lane(1, 1, 0),
-            answer: measured(10, 1),
-            ..plain
-        },
-        // 0 seen; 1,000 / 10
-        Case {
-            what: "occupancy without flow",
-            first: lane(0, 0, 100),
-            others: lane(0, 0, 100),
-            answer: NONE,
-            ..plain
-        },
-        // 1 seen; 1,000 / 10
-        Case {
-            what: "occupancy with one vehicle",
-            first: lane(1, 1, 100),
-            others: lane(0, 0, 100),
-            answer: measured(1, 100),
-            ..plain
-        },
-    ];
-    for case in cases {
-        closes_as(&rt, case)?;
-    }
-    Ok(())
-}
-
-// Two lanes over two intervals of 10 seconds.
-// Lane 1: 10 seen, 2,509 busy, so 250; then 20 seen, 4,050 busy, so 405: flow 30, occupancy 655 / 2, so 327.
-// Lane 2: 10 seen, 1,070 busy, so 107; then 10 seen, 3,340 busy, so 334: flow 20, occupancy 441 / 2, so 220.
-// Together: flow 50, occupancy 547 / 2, so 273.
-#[test]
-fn two_lanes(rt: HostRuntime) -> Result<(), Fail> {
-    let mut tally = tally_with(Chosen {
-        lanes: 2,
-        period_intervals: 2,
-        ..PLAIN
-    })?;
-    run(&rt, &mut tally, 9, &[lane(1, 1, 250), lane(1, 1, 107)]);
-    run(&rt, &mut tally, 1, &[lane(1, 1, 259), lane(1, 1, 107)]);
-    run(&rt, &mut tally, 9, &[lane(2, 2, 405), lane(1, 1, 334)]);
-    assert_eq!(rt;
-        tally.second(&[lane(2, 2, 405), lane(1, 1, 334)]),
-        measured(50, 273)
-    );
-    Ok(())
-}
-
-// 59 + 19 x 240 = 4,619 busy in 20 seconds: 230.95, so 230. 20 seen.
-#[test]
-fn occupancy_rounds_down(rt: HostRuntime) -> Result<(), Fail> {
-    let mut tally = tally_with(Chosen {
-        interval_seconds: 20,
-        ..PLAIN
-    })?;
-    run(&rt, &mut tally, 1, &[lane(1, 1, 59)]);
-    run(&rt, &mut tally, 18, &[lane(1, 1, 240)]);
-    assert_eq!(rt; tally.second(&[lane(1, 1, 240)]), measured(20, 230));
-    Ok(())
-}
-
-// Each interval is judged by itself: 8 of 10 sound leave the first invalid, though 28 of 30 are above 80 in a hundred.
-#[test]
-fn one_interval_invalid(rt: HostRuntime) -> Result<(), Fail> {
-    let mut tally = tally_with(Chosen {
-        period_intervals: 2,
-        ..PLAIN
-    })?;
-    run(&rt, &mut tally, 8, &[lane(1, 1, 100)]);
-    run(&rt, &mut tally, 2, &[lane(1, 0, 100)]);
-    run(&rt, &mut tally, 9, &[lane(2, 2, 100)]);
-    assert_eq!(rt; tally.second(&[lane(2, 2, 100)]), NONE);
-    Ok(())
-}
-
-// One second with a wrong number of readings leaves a sheet of two lanes without a measure.
-#[test]
-fn wrong_number_of_readings(rt: HostRuntime) -> Result<(), Fail> {
-    let all = [lane(1, 1, 100), lane(1, 1, 100), lane(1, 1, 100)];
-    // 10 + 10 seen; 1,000 / 10 for each lane
-    for (readings, answer) in [(0, NONE), (1, NONE), (2, measured(20, 100)), (3, NONE)] {
-        let mut tally = tally_with(Chosen { lanes: 2, ..PLAIN })?;
-        run(&rt, &mut tally, 4, &all[0..2]);
-        run(&rt, &mut tally, 1, &all[0..readings]);
-        run(&rt, &mut tally, 4, &all[0..2]);
-        assert_eq!(rt; tally.second(&all[0..2]), answer);
-    }
-    Ok(())
-}
-
-// A period closes in its last second and not before: intervals x seconds. One seen and 100 busy in each.
-#[test]
-fn closes_in_its_last_second(rt: HostRuntime) -> Result<(), Fail> {
-    for (interval_seconds, period_intervals, seconds) in [
-        (10, 1, 10),
-        (10, 3, 30),
-        (13, 2, 26),
-        (60, 15, 900),
-    ] {
-        let mut tally = tally_with(Chosen {
-            interval_seconds,
-            period_intervals,
-            overcount: 900,
-            ..PLAIN
-        })?;
-        for _ in 0..2 {
-            run(&rt, &mut tally, seconds - 1, &[lane(1, 1, 100)]);
-            assert_eq!(rt; tally.second(&[lane(1, 1, 100)]), measured(seconds, 100));
+// The steps are as they say.
+fn steps_are(rt: &impl Abort, steps: &[Step]) {
+    let mut tally = tally_on(rt, &[1, 10, 1, 80, 100]);
+    let mut what = "";
+    for step in steps {
+        match step {
+            Step::Sheet(name, figures) => {
+                what = name;
+                tally = tally_on(rt, figures);
+            }
+            Step::Seconds(seconds, readings, answer) => answers_are(
+                rt, &mut tally, *seconds, readings, *answer, what,
+            ),
         }
     }
-    Ok(())
 }
 
-// Nothing of a period goes over into the next: none, then 20 seen with 2,000 / 10, then 10 seen with 1,000 / 10.
 #[test]
-fn starts_anew(rt: HostRuntime) -> Result<(), Fail> {
-    let mut tally = tally_with(PLAIN)?;
-    run(&rt, &mut tally, 9, &[lane(5, 5, 500)]);
-    assert_eq!(rt; tally.second(&[lane(5, 6, 500)]), NONE);
-    run(&rt, &mut tally, 9, &[lane(2, 2, 200)]);
-    assert_eq!(rt; tally.second(&[lane(2, 2, 200)]), measured(20, 200));
-    run(&rt, &mut tally, 9, &[lane(1, 1, 100)]);
-    assert_eq!(rt; tally.second(&[lane(1, 1, 100)]), measured(10, 100));
-    Ok(())
-}
-
-// Lanes with 10, 20, 30 and 40 seen and occupancies 101, 202, 300 and 405.
-// Their means: 101; 303 / 2, so 151; 603 / 3 = 201; 1,008 / 4 = 252.
-#[test]
-fn one_to_four_lanes(rt: HostRuntime) -> Result<(), Fail> {
-    let all = [
-        lane(1, 1, 101),
-        lane(2, 2, 202),
-        lane(3, 3, 300),
-        lane(4, 4, 405),
-    ];
-    for (lanes, flow, occupancy) in [(1, 10, 101), (2, 30, 151), (3, 60, 201), (4, 100, 252)] {
-        let mut tally = tally_with(Chosen {
-            lanes: lanes as u32,
-            ..PLAIN
-        })?;
-        run(&rt, &mut tally, 9, &all[0..lanes]);
-        assert_eq!(rt; tally.second(&all[0..lanes]), measured(flow, occupancy));
-    }
-    Ok(())
-}
-
-// Whichever of the four lanes is unsound, busy without a vehicle, there is no measure.
-#[test]
-fn one_lane_unsound(rt: HostRuntime) -> Result<(), Fail> {
-    for bad in 0..4 {
-        let mut all = [lane(1, 1, 100); 4];
-        all[bad] = lane(0, 0, 100);
-        let mut tally = tally_with(Chosen { lanes: 4, ..PLAIN })?;
-        run(&rt, &mut tally, 9, &all);
-        assert_eq!(rt; tally.second(&all), NONE);
-    }
-    Ok(())
+fn periods(rt: HostRuntime) {
+    gives(&rt, |reading: LaneReading| reading.is_in_range(), &RANGES);
+    steps_are(&rt, &STEPS);
 }

@@ -2,16 +2,9 @@
 ghost use Rattle.std.specs.Prelude.{◌≡◌};
 
 use lamps::Lamp;
-use records::{AlarmRecord, PeriodRecord, Phase, Ring, TripCode, count_after, put_in};
+use records::{AlarmRecord, PeriodRecord, Phase, Ring, TripCode, put_in};
 use std::process::Abort;
 use strategy::Measure;
-
-#[test]
-fn codes_of_trips(rt: HostRuntime) {
-    for (code, number) in [(TripCode::NotLit, 1), (TripCode::Unwanted, 2)] {
-        assert_eq!(rt; code.number(), number);
-    }
-}
 
 // A kind of element, with one for each number.
 trait Numbered: Copy + PartialEq {
@@ -24,54 +17,44 @@ impl Numbered for u32 {
     }
 }
 
-fn alarm(n: u32) -> AlarmRecord {
-    let (code, lamp, phase) = if n % 2 == 0 {
-        (TripCode::NotLit, Lamp::Red, Phase::Metering)
-    } else {
-        (TripCode::Unwanted, Lamp::FlashingAmber, Phase::Standby)
-    };
-    AlarmRecord {
-        second: n,
-        code,
-        lamp,
-        phase,
-    }
-}
-
 impl Numbered for AlarmRecord {
     fn numbered(n: u32) -> AlarmRecord {
-        alarm(n)
-    }
-}
-
-fn period(n: u32) -> PeriodRecord {
-    let measure = if n % 3 == 0 {
-        None
-    } else {
-        Some(Measure {
-            flow: n,
-            occupancy_permille: 230,
-        })
-    };
-    PeriodRecord {
-        number: n,
-        minute: n,
-        measure,
-        cycle: 10,
-        openings: n,
+        let (code, lamp, phase) = if n % 2 == 0 {
+            (TripCode::NotLit, Lamp::Red, Phase::Metering)
+        } else {
+            (TripCode::Unwanted, Lamp::FlashingAmber, Phase::Standby)
+        };
+        AlarmRecord {
+            second: n,
+            code,
+            lamp,
+            phase,
+        }
     }
 }
 
 impl Numbered for PeriodRecord {
     fn numbered(n: u32) -> PeriodRecord {
-        period(n)
+        let measure = Measure {
+            flow: n,
+            occupancy_permille: 230,
+        };
+        PeriodRecord {
+            number: n,
+            minute: n,
+            measure: if n % 3 == 0 { None } else { Some(measure) },
+            cycle: 10,
+            openings: n,
+        }
     }
 }
 
-// The list begins with `many` elements, oldest first, of which the newest has the number put; the rest has the number 0.
+// The list begins with `many` elements, oldest first, the newest of which has the number put; the rest has number 0.
 fn newest_come_last<T: Numbered>(rt: &impl Abort, list: &[T], many: u32, put: u32) {
     let gone = put.saturating_sub(many);
-    for (place, x) in (1..u32::MAX).zip(list) {
+    let mut place = 0u32;
+    for x in list {
+        place = place.saturating_add(1);
         let number = if place <= many {
             gone.saturating_add(place)
         } else {
@@ -116,35 +99,8 @@ fn of_every_size<T: Numbered>(rt: &impl Abort, places: &mut [T], list: &mut [T])
     }
 }
 
-#[test]
-fn rings_of_numbers(rt: HostRuntime) {
-    of_every_size(&rt, &mut [0u32; 5], &mut [0u32; 6]);
-}
-
-#[test]
-fn rings_of_alarms(rt: HostRuntime) {
-    of_every_size(&rt, &mut [alarm(0); 5], &mut [alarm(0); 6]);
-}
-
-#[test]
-fn rings_of_periods(rt: HostRuntime) {
-    of_every_size(&rt, &mut [period(0); 5], &mut [period(0); 6]);
-}
-
-#[test]
-fn counts_stop(rt: HostRuntime) {
-    for (put, after) in [
-        (0, 1),
-        (1, 2),
-        (4_294_967_293, 4_294_967_294),
-        (4_294_967_294, 4_294_967_295),
-        (4_294_967_295, 4_294_967_295),
-    ] {
-        assert_eq!(rt; count_after(put), after);
-    }
-}
-
-// Three places that hold 7, 8 and 9: the two numbers, what a put of 1 makes of the places, and the two numbers after it.
+// Three places that hold 7, 8 and 9: the two numbers, what a put of 1 makes of the places, and the two numbers after
+// it. Worked out by hand from the rule of a ring: the next place, round the end.
 const PUTS: [((usize, u32), [u32; 3], (usize, u32)); 9] = [
     ((0, 0), [1, 8, 9], (1, 1)),
     ((1, 1), [7, 1, 9], (2, 2)),
@@ -165,10 +121,10 @@ const PUTS: [((usize, u32), [u32; 3], (usize, u32)); 9] = [
 
 #[test]
 fn puts_over_plain_numbers(rt: HostRuntime) {
-    for ((next, put), wanted, numbers) in PUTS {
+    for ((next, put), wanted, numbers) in &PUTS {
         let mut places = [7, 8, 9];
-        assert_eq!(rt; put_in(&mut places, next, put, 1), numbers);
-        assert_eq!(rt; places, wanted);
+        assert_eq!(rt; put_in(&mut places, *next, *put, 1), *numbers);
+        assert_eq!(rt; places, *wanted);
     }
     let mut none = [0u32; 0];
     assert_eq!(rt; put_in(&mut none, 0, 0, 1), (0, 1));
@@ -186,6 +142,10 @@ fn second_place(x: u32) -> u32
 }
 
 #[test]
-fn lent_places_come_back(rt: HostRuntime) {
+fn rings(rt: HostRuntime) {
+    of_every_size(&rt, &mut [0u32; 5], &mut [0u32; 6]);
+    let (alarm, period) = (AlarmRecord::numbered(0), PeriodRecord::numbered(0));
+    of_every_size(&rt, &mut [alarm; 5], &mut [alarm; 6]);
+    of_every_size(&rt, &mut [period; 5], &mut [period; 6]);
     assert_eq!(rt; second_place(17), 17);
 }
