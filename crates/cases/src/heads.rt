@@ -2,17 +2,17 @@
 ghost use Rattle.std.specs.Prelude.{◌≡◌, ◌%◌};
 
 use crate::tables::gives;
-use lamps::{Colour, CurrentHead, Lamp, LampHead, LampWords, RelayHead};
+use lamps::{Colour, CurrentHead, Lamp, LampHead, LampSet, LampWords, RelayHead};
 use records::TripCode;
 use std::process::Abort;
 
 #[test]
 fn numbers_of_colours_lamps_and_trips(rt: HostRuntime) {
     let lit = [
-        Colour::Dark.lamps(),
-        Colour::Red.lamps(),
-        Colour::FixedAmber.lamps(),
-        Colour::FlashingAmber.lamps(),
+        Colour::Dark.lamps().bits(),
+        Colour::Red.lamps().bits(),
+        Colour::FixedAmber.lamps().bits(),
+        Colour::FlashingAmber.lamps().bits(),
     ];
     let lamps = [
         Lamp::Red.number(),
@@ -70,7 +70,7 @@ fn colours_are<H: LampHead>(rt: &impl Abort, head: &mut H, word: u32) {
 fn read_back<H: LampWords>(head: &H, lit: u32) -> u32
     ensures { result ≡ lit % 8 }
 {
-    head.read(head.word_for(lit))
+    head.read(head.word_for(LampSet::from_bits(lit))).bits()
 }
 
 // Sets, and numbers above them, with the set that each stands for: the remainder by 8, worked out by hand.
@@ -104,10 +104,13 @@ fn relay_head(rt: HostRuntime) {
     let mut head = RelayHead::new();
     colours_are(&rt, &mut head, 5);
     gives(&rt, |lit| read_back(&head, lit), &SETS);
-    gives(&rt, |word| head.read(word), &RELAY_WORDS);
+    gives(&rt, |word| head.read(word).bits(), &RELAY_WORDS);
     for step in 0..400u32 {
         let word = step.wrapping_mul(10_764_287);
-        assert_eq!(rt; head.read(word), (word & 1) | (word & 2) | (word & 4));
+        assert_eq!(rt;
+            head.read(word).bits(),
+            (word & 1) | (word & 2) | (word & 4)
+        );
     }
 }
 
@@ -135,7 +138,7 @@ fn current_head(rt: HostRuntime) {
                     + 4 * u32::from(*flashing_lit);
                 for highest in [0, 255] {
                     let word = u32::from_le_bytes([*red, *fixed, *flashing, highest]);
-                    assert_eq!(rt; head.read(word), lit);
+                    assert_eq!(rt; head.read(word).bits(), lit);
                 }
             }
         }

@@ -28,6 +28,8 @@ mod row_macros;
 #[cfg(test)]
 mod rows;
 #[cfg(test)]
+mod runs;
+#[cfg(test)]
 mod sheets;
 #[cfg(test)]
 mod strategies;
