@@ -1,8 +1,12 @@
-use Rattle.std.proofs.Common.{◌≡◌, ◌<◌, length, take, drop, ◌∙◌, subst, arith}
+use Rattle.std.proofs.Common.{◌≡◌, ℕ, ◌+◌, ◌<◌, List, length, take, drop, set, subst, sym, ap, ◌∙◌, arith}
+use Rattle.std.proofs.lemmas.List.{drop-set-lt, drop-drop}
 use Rattle.replay.specs.Played.{Played}
-use Rattle.plan.proofs.Reading.{same_behind}
 use Rattle.replay.proofs.Playing.{played_more, goes_through}
 use Rattle.replay.proofs.run.Run.play.Goals as goal
+
+-- a write at a place leaves what is behind it
+same_behind : {A : Type 0} (new old : List A) (k : ℕ) (x : A) → drop k new ≡ drop k old → drop (k + 1) (set new k x) ≡ drop (k + 1) old
+same_behind new old k x e = drop-set-lt (k + 1) new k x (omega arith) ∙ sym (drop-drop 1 k new) ∙ ap (drop 1) e ∙ drop-drop 1 k old
 
 pub loop-i-preserved : goal.loop-i-preserved
 loop-i-preserved g c =
