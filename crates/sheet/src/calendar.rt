@@ -2,7 +2,7 @@
 
 /// A range of minutes of the week in which metering is wanted in local mode. Minute m is in it if from ≤ m < to.
 /// (docs/RULES.md, "One second")
-#[derive(Clone, Copy, Debug, PartialEq, Eq)]
+#[derive(Clone, Copy, Debug, Default, PartialEq, Eq)]
 pub struct MinuteRange {
     /// First minute of the range; minutes of the week are 0 to 10,079.
     pub from: u32,
