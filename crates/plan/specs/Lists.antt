@@ -1,16 +1,12 @@
 -- The lanes of a second and the ranges of a calendar.
-use Rattle.std.specs.Prelude.{ℕ, min, List, [], take, Ok, Err, Result}
+use Rattle.std.specs.Prelude.{List, [], Ok, Err, Result}
 use Rattle.loops.specs.declared.reading.LaneReading.{LaneReading}
-use Rattle.plan.specs.declared.up_to.UpTo.{UpTo}
 use Rattle.sheet.specs.declared.calendar.MinuteRange.{MinuteRange}
 use Rattle.plan.specs.declared.fault.RowFault.{RowFault}
 use Rattle.plan.specs.declared.fault.Wanted.TheVariants.{Lane, Range}
 use Rattle.plan.specs.Fields.{Numbered}
 use Rattle.plan.specs.Several.{at_most}
 use Rattle.plan.specs.Values.{lane_of, range_of}
-
-abbrev pub items_in : {T : Type 0} {k : ℕ} → UpTo T k → List T
-items_in {T} {k} l = take (min l.count k) l.items
 
 -- the values that were read, and none where a field is wrong
 abbrev pub items_or_none : {A : Type 0} → Result (List A) RowFault → List A

@@ -4,16 +4,15 @@ use Rattle.loops.specs.declared.reading.LaneReading.{LaneReading}
 use Rattle.plan.specs.declared.reader.Reader.{Reader}
 use Rattle.plan.specs.declared.row.Row.{Row}
 use Rattle.plan.specs.declared.fault.RowFault.{RowFault}
-use Rattle.plan.specs.Lists.{items_in}
 use Rattle.plan.specs.Rows.{Said}
 use Rattle.plan.specs.Values.{given}
 use Rattle.sheet.specs.declared.calendar.MinuteRange.{MinuteRange}
 
 abbrev pub lanes_kept : Reader → List LaneReading
-lanes_kept r = items_in r.lanes
+lanes_kept r = r.lanes.items
 
 abbrev pub calendar_kept : Reader → List MinuteRange
-calendar_kept r = items_in r.calendar
+calendar_kept r = r.calendar.items
 
 -- the row that was said, or what is wrong with it
 abbrev pub row_in : Result Said RowFault → Result Row RowFault

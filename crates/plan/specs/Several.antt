@@ -1,5 +1,5 @@
 -- Several values of one kind, to the end of a row.
-use Rattle.std.specs.Prelude.{◌≡◌, ℕ, zero, suc, ◌≤◌, cond, List, [], ◌∷◌, length, take, drop, Ok, Err, Option, Result}
+use Rattle.std.specs.Prelude.{◌≡◌, ℕ, zero, suc, cond, List, [], ◌∷◌, length, Ok, Err, Option, Result}
 use Rattle.plan.specs.declared.fault.RowFault.{RowFault}
 use Rattle.plan.specs.declared.fault.Wanted.{Wanted}
 use Rattle.plan.specs.Fields.{Numbered, past, is_empty}
@@ -20,12 +20,6 @@ at_most means w (suc k) fs = cond (is_empty fs.fields) (Ok []) (together (value_
 unfoldable pub exactly : {A : Type 0} → (List ℕ → Option A) → Wanted → ℕ → Numbered → Result (List A) RowFault
 exactly means w zero fs = given (end_at fs) (λ _. Ok [])
 exactly means w (suc k) fs = together (value_at means w fs) (exactly means w k (past fs))
-
--- `new` is `old` with the values at its front, and r says how many they are or what is wrong
-abbrev pub Filled : {A : Type 0} → (List ℕ → Option A) → Wanted → Numbered → List A → List A → Result ℕ RowFault → Type 0
-Filled means w fs old new (Ok k) =
-    (k ≤ length old) × (at_most means w (length old) fs ≡ Ok (take k new)) × (drop k new ≡ drop k old)
-Filled means w fs old new (Err e) = at_most means w (length old) fs ≡ Err e
 
 -- `new` is the values, or r says what is wrong
 abbrev pub FilledUp : {A : Type 0} → (List ℕ → Option A) → Wanted → Numbered → List A → Result (Unit {0}) RowFault → Type 0

@@ -1,27 +1,46 @@
 // Reads several values of one kind, to the end of a row.
+ghost use Rattle.std.specs.Prelude.{◌≡◌, [], Ok};
 ghost use Rattle.plan.specs.Fields.{fields_left};
-ghost use Rattle.plan.specs.Several.{Filled, FilledUp};
+ghost use Rattle.plan.specs.Lists.{items_or_none};
+ghost use Rattle.plan.specs.Several.{at_most, FilledUp};
+ghost use Rattle.plan.specs.Values.{checked, given};
 
 use crate::fault::RowFault;
 use crate::fields::Fields;
 use crate::value::{Value, expect_end, next_value};
+use arrayvec::ArrayVec;
 
-/// Reads the fields that are left into the front of `into`, and returns how many there were. A field for which there is
-/// no place is surplus. After an error the front of `into` may have changed.
-pub(crate) fn fill<T: Value>(fields: &mut Fields<'_>, into: &mut [T]) -> Result<usize, RowFault>
-    ensures { Filled T.Value.means T.Value.named (fields_left fields.old) into.old into.new result }
+// Appends the values in the fields that are left, as many as there is room for. A field more is surplus.
+fn append_values<T: Value, const MOST: usize>(
+    fields: &mut Fields<'_>,
+    values: &mut ArrayVec<T, MOST>,
+) -> Result<(), RowFault>
+    requires { values.now.items ≡ [] }
+    ensures { at_most T.Value.means T.Value.named MOST (fields_left fields.old) ≡
+        given result (λ _. Ok values.new.items) }
 {
-    // Not by `enumerate`, which has no count to give once all places are filled.
-    let mut count = 0;
-    for place in into.iter_mut() {
-        if fields.is_empty() {
-            break;
-        }
-        *place = next_value(fields)?;
-        count += 1;
+    while !values.is_full() && !fields.is_empty() {
+        values.push(next_value(fields)?);
     }
-    expect_end(fields)?;
-    Ok(count)
+    expect_end(fields)
+}
+
+/// Replaces the values by those in the fields that are left. There are none after an error: a field is wrong, or there
+/// are more than `MOST`.
+pub(crate) fn read_values<T: Value + Default, const MOST: usize>(
+    fields: &mut Fields<'_>,
+    values: &mut ArrayVec<T, MOST>,
+) -> Result<(), RowFault>
+    ensures fault { result ≡ checked (at_most T.Value.means T.Value.named MOST (fields_left fields.old)) }
+    ensures items { values.new.items ≡
+        items_or_none (at_most T.Value.means T.Value.named MOST (fields_left fields.old)) }
+{
+    values.clear();
+    let read = append_values(fields, values);
+    if read.is_err() {
+        values.clear();
+    }
+    read
 }
 
 /// Reads the fields that are left into all of `into`. One too few is missing, one too many is surplus.

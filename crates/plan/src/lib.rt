@@ -15,7 +15,6 @@ mod row;
 mod second;
 mod strategy_row;
 mod text;
-mod up_to;
 mod value;
 mod words;
 

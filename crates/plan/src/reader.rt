@@ -6,32 +6,23 @@ ghost use Rattle.plan.specs.Rows.{calendar_row_of, said_as, row_named, row_of};
 
 use crate::fault::RowFault;
 use crate::fields::Fields;
+use crate::filling::read_values;
 use crate::kind::{Kind, kind_named};
 use crate::plain_rows::{is_blank, read_head, read_line, read_reset, read_sheet};
 use crate::row::Row;
 use crate::second::read_second;
 use crate::strategy_row::read_strategy;
-use crate::up_to::UpTo;
 use crate::value::next_value;
+use arrayvec::ArrayVec;
 use loops::LaneReading;
 use sheet::MinuteRange;
-
-// Fills the places of lanes that a row does not have.
-const NO_LANE: LaneReading = LaneReading {
-    seen: 0,
-    sound: 0,
-    busy_ms: 0,
-};
-
-// Fills the places of ranges that a row does not have.
-const NO_RANGE: MinuteRange = MinuteRange { from: 0, to: 0 };
 
 /// Reads the rows of a plan, one after the other (docs/TRIAL.md, "The plan"). It keeps the lists that rows carry: the
 /// lanes of the newest row, and the calendar that holds at this row.
 #[derive(Debug, Drop)]
 pub struct Reader {
-    lanes: UpTo<LaneReading, 16>,
-    calendar: UpTo<MinuteRange, 64>,
+    lanes: ArrayVec<LaneReading, 16>,
+    calendar: ArrayVec<MinuteRange, 64>,
 }
 
 impl Reader {
@@ -41,8 +32,8 @@ impl Reader {
         ensures calendar { calendar_kept result ≡ [] }
     {
         Reader {
-            lanes: UpTo::none(NO_LANE),
-            calendar: UpTo::none(NO_RANGE),
+            lanes: ArrayVec::new(),
+            calendar: ArrayVec::new(),
         }
     }
 
@@ -67,8 +58,8 @@ impl Reader {
         requires { lanes_kept self.now ≡ [] }
         ensures { ReadAs (calendar_row_of (fields_left fields.old)) self.old self.new result }
     {
-        let mut calendar = UpTo::none(NO_RANGE);
-        calendar.read(fields)?;
+        let mut calendar = ArrayVec::new();
+        read_values(fields, &mut calendar)?;
         self.calendar = calendar;
         Ok(Row::Calendar)
     }
