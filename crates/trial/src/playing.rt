@@ -100,11 +100,16 @@ impl<R: Read + Drop> Plan<R> {
     // Reads up to the first act, if there is one.
     fn first_act(&mut self, setup: &mut Setup) -> Result<Option<Row>, Stop> {
         for _ in turns() {
-            let Some(row) = self.rows.next_row()? else {
+            if !self.rows.advance()? {
                 break;
-            };
-            if let Some(act) = self.prepare(setup, row)? {
-                return Ok(Some(act));
+            }
+            match self.rows.read() {
+                Ok(row) => {
+                    if let Some(act) = self.prepare(setup, row)? {
+                        return Ok(Some(act));
+                    }
+                }
+                Err(fault) => return Err(self.rows.malformed(fault)),
             }
         }
         Ok(None)
@@ -154,10 +159,13 @@ impl<R: Read + Drop> Plan<R> {
     fn play_acts<P: Player>(&mut self, player: &mut P, first: &Row) -> Result<(), Stop> {
         self.do_row(player, first)?;
         for _ in turns() {
-            let Some(row) = self.rows.next_row()? else {
+            if !self.rows.advance()? {
                 break;
-            };
-            self.do_row(player, &row)?;
+            }
+            match self.rows.read() {
+                Ok(row) => self.do_row(player, &row)?,
+                Err(fault) => return Err(self.rows.malformed(fault)),
+            }
         }
         player.end()
     }

@@ -1,7 +1,7 @@
 // The rows of a plan, one by one, as they are read.
 use crate::lines::Lines;
 use crate::stop::{Fault, Stop};
-use plan::{Reader, Row, row_text};
+use plan::{Reader, Row, RowFault, row_text};
 use std::alloc::Global;
 use std::io::Read;
 
@@ -21,16 +21,15 @@ impl<R: Read + Drop> Rows<R> {
         })
     }
 
-    /// Reads the next row, if there is one.
-    pub(crate) fn next_row(&mut self) -> Result<Option<Row>, Stop> {
-        if !self.lines.advance()? {
-            return Ok(None);
-        }
-        let text = row_text(self.lines.raw(), self.lines.number() == 1);
-        match self.reader.read(text) {
-            Ok(row) => Ok(Some(row)),
-            Err(fault) => Err(self.malformed(fault)),
-        }
+    /// Goes on to the next row, and returns whether there is one.
+    pub(crate) fn advance(&mut self) -> Result<bool, Stop> {
+        self.lines.advance()
+    }
+
+    /// What the row says that was gone on to.
+    pub(crate) fn read(&mut self) -> Result<Row, RowFault> {
+        self.reader
+            .read(row_text(self.lines.raw(), self.lines.number() == 1))
     }
 
     /// The text of the row read last.
