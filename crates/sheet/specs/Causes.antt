@@ -28,6 +28,10 @@ cause_of_limits d = option_map OutsideLimits (lowest_outside 1 limits (figures_o
 unfoldable pub cause_of : Draft → Option Cause
 cause_of d = option_or (cause_of_limits d) (cause_of_pairs d)
 
+-- the refusal that is due to a draft: its number, 1 to 3, and the figure that it names; none where it is accepted
+abbrev pub refusal_due : Draft → Option Refusal
+refusal_due d = option_map refusal_of (cause_of d)
+
 -- what a check answers, where a cause is against the draft or none is
 abbrev pub checked : Option Cause → Result (Unit {0}) Cause
 checked None = Ok tt

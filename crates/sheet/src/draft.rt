@@ -57,7 +57,8 @@ pub struct Draft {
 }
 
 impl Draft {
-    ghost use Rattle.sheet.specs.Judged.{Judged};
+    ghost use Rattle.sheet.specs.Causes.{refusal_due};
+    ghost use Rattle.sheet.specs.Judged.{Judged, refusal_in};
 
     /// The draft with these figures in the order of their numbers, the station's number first.
     pub fn new(figures: [u32; 22]) -> Draft
@@ -144,9 +145,11 @@ impl Draft {
     }
 
     /// Uses the draft up. Returns an accepted sheet with the same figures, or the draft unaltered with the first cause
-    /// that applies. (docs/RULES.md, "Accepting a sheet")
+    /// that applies. In numbers that is refusal 1 with the figure outside its limits, 2 with figure 10 (TO2 not below
+    /// TO1), or 3 with figure 22 (q0 outside qmin to qmax). (docs/RULES.md, "Accepting a sheet" and "Refusals")
     pub fn accept(self) -> Result<Sheet, RefusedDraft>
-        ensures { Judged self result }
+        ensures judged { Judged self result }
+        ensures told { refusal_in result ≡ refusal_due self }
     {
         match check(&self) {
             Ok(()) => Ok(Sheet { draft: self }),
