@@ -1,5 +1,6 @@
 -- Command lines and breaker resets: what they answer, and what they make of the station.
 use Rattle.std.specs.Prelude.{ℕ, Bool, true, false, cond, List, [], ◌++◌, length, drop, Some, None, Ok, Err, Option, Result, nat_lt}
+use Rattle.std.specs.Option.{option_map, option_or}
 use Rattle.sheet.specs.declared.sheet.Sheet.{Sheet}
 use Rattle.lamps.specs.declared.colour.Colour.TheVariants as colour
 use Rattle.orders.specs.declared.order.Order.{Order}
@@ -27,6 +28,11 @@ telling_of refused.Tripped = record { number = 8; value = None }
 telling_of refused.LocalMode = record { number = 9; value = None }
 telling_of refused.NotTripped = record { number = 10; value = None }
 telling_of (refused.Buffer needed) = record { number = 11; value = Some needed }
+
+-- the refusal in an answer, by its number and its value, if it is one
+abbrev pub refusal_in : {A : Type 0} → Result A Refused → Option Refusal
+refusal_in (Ok x) = None
+refusal_in (Err e) = Some (telling_of e)
 
 -- the cycle and the off order are the centre's, in local mode they are refused
 abbrev pub in_mode : Mode → Option Refused
@@ -81,9 +87,24 @@ abbrev pub answer_to : Sheet → Stage → Mode → (room : ℕ) → Result Orde
 answer_to f s mode room (Err e) = Err (refused.Order e)
 answer_to f s mode room (Ok o) = answered_by room (refused_by (is_tripped s) mode o) (reply_of f s o)
 
--- the same of a whole station
+-- the refusal of a reply that is longer than the buffer: number 11, with the bytes needed
+abbrev pub no_room : (room : ℕ) → List ℕ → Option Refusal
+no_room room reply = cond (nat_lt room (length reply)) (Some (record { number = 11; value = Some (length reply) })) None
+
+-- the refusal that is due to a line at this stage and in this mode: 4 to 7 where it gives no order, with the length of
+-- the line or the place of the fault; 8 or 9 where its order is not taken; 11 where the buffer is too short for its reply
+abbrev pub refusal_to : Sheet → Stage → Mode → (room : ℕ) → Result Order OrderFault → Option Refusal
+refusal_to f s mode room (Err e) = Some (refusal_of e)
+refusal_to f s mode room (Ok o) =
+    option_or (option_map telling_of (refused_by (is_tripped s) mode o)) (no_room room (reply_of f s o))
+
+-- what a whole station answers to a line
 abbrev pub line_answer : {S : Type 0} → Sheet → Model S → (line : List ℕ) (room : ℕ) → Result (List ℕ) Refused
 line_answer f m line room = answer_to f m.stage m.command.mode room (order_of line)
+
+-- the refusal that is due to a line by a whole station
+abbrev pub line_refusal : {S : Type 0} → Sheet → Model S → (line : List ℕ) (room : ℕ) → Option Refusal
+line_refusal f m line room = refusal_to f m.stage m.command.mode room (order_of line)
 
 -- the station with another command
 abbrev pub with_command : {S : Type 0} → Command → Model S → Model S
@@ -122,6 +143,10 @@ buffer_after (Ok reply) buffer = reply ++ drop (length reply) buffer
 -- a breaker reset is taken by a tripped station
 abbrev pub reset_answer : {S : Type 0} → Model S → Result (Unit {0}) Refused
 reset_answer m = cond (is_tripped m.stage) (Ok tt) (Err refused.NotTripped)
+
+-- the refusal that is due to a breaker reset: number 10 with no value, unless the station is tripped
+abbrev pub reset_refusal : {S : Type 0} → Model S → Option Refusal
+reset_refusal m = cond (is_tripped m.stage) None (Some (record { number = 10; value = None }))
 
 -- it restores the head, and gives standby (in which no second was shown since), local mode, not wanted and no centre's cycle
 abbrev pub reset_taken : {S : Type 0} → Model S → Model S

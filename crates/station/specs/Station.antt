@@ -15,6 +15,7 @@ use Rattle.control.specs.declared.answer.Refused.{Refused}
 use Rattle.control.specs.declared.command.Command.{Command}
 use Rattle.loops.specs.Source.{loop_figures}
 use Rattle.control.specs.Lines.{line_answer, obeyed, bytes_of, buffer_after, after_reset, reset_answer}
+use Rattle.control.specs.Lines.{refusal_in, line_refusal, reset_refusal}
 use Rattle.control.specs.Model.{Model, Given}
 use Rattle.control.specs.Phases.{phase_of, running_cycle}
 use Rattle.control.specs.Seconds.{after, answer, readings_after, period_put, alarm_put}
@@ -78,19 +79,23 @@ module _ {S H : Type 0} (st : StrategyMeaning S) (hd : HeadMeaning H) where
     pub periods : PutInto ps ps' (period_put st before.sheet (model hd before ss) g)
     pub alarms : PutInto ls ls' (alarm_put st before.sheet (model hd before ss) g)
 
-  -- what a command line does: its answer is the one that the rules say, the buffer has the reply at its front and no other byte altered, and a line that
-  -- is taken alters mode, wanted and the centre's cycle as its order says; a refusal alters nothing at all
+  -- what a command line does: its answer is the one that the rules say, its refusal has the number, 4 to 9 or 11, and the
+  -- value that they give, the buffer has the reply at its front and no other byte altered, and a line that is taken alters
+  -- mode, wanted and the centre's cycle as its order says; a refusal alters nothing at all
   pub record LineDone (before : Station S H) (line buffer : List ℕ) (behind : Station S H) (buffer' : List ℕ) (r : Result ℕ Refused) : Type 0 where
     pub answers : (ss : List Readings) → r ≡ bytes_of (line_answer before.sheet (model hd before ss) line (length buffer))
+    pub told : (ss : List Readings) → refusal_in r ≡ line_refusal before.sheet (model hd before ss) line (length buffer)
     pub replies : (ss : List Readings) → buffer' ≡ buffer_after (line_answer before.sheet (model hd before ss) line (length buffer)) buffer
     pub becomes : (ss : List Readings) → behind ≡ with_command (obeyed (order_of line) (line_answer before.sheet (model hd before ss) line (length buffer)) before.command) before
     pub unaltered : IfErr r (λ _. (behind ≡ before) × (buffer' ≡ buffer))
 
-  -- what a breaker reset does: taken or refused, the station is the one that the rule says; a refusal alters nothing at all
+  -- what a breaker reset does: taken or refused, the station is the one that the rule says; a refusal has number 10 and
+  -- no value, and alters nothing at all
   pub record ResetDone (before : Station S H) (behind : Station S H) (r : Result (Unit {0}) Refused) : Type 0 where
     pub stands : (ss : List Readings) → Stands before ss → Stands behind ss
     pub becomes : (ss : List Readings) → model hd behind ss ≡ after_reset (model hd before ss)
     pub answers : (ss : List Readings) → r ≡ reset_answer (model hd before ss)
+    pub told : (ss : List Readings) → refusal_in r ≡ reset_refusal (model hd before ss)
     pub unaltered : IfErr r (λ _. behind ≡ before)
 
   -- what a look promises of every history that the station lived: the run law, that what is seen is what the log has,

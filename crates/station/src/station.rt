@@ -131,8 +131,9 @@ impl<S: Strategy, H: LampHead> Station<S, H> {
     }
 
     /// A command line. A status reading writes its answer to the front of the buffer and returns its bytes, 34 at most;
-    /// the other lines write nothing and return 0. Refusals 4 to 9 and 11 alter neither station nor buffer; a buffer of
-    /// 34 bytes is never too short. (docs/RULES.md, "Command lines" and "Refusals")
+    /// the other lines write nothing and return 0. Refusals 4 to 9 and 11, each with the value that the table of refusals
+    /// gives it, alter neither station nor buffer; a buffer of 34 bytes is never too short. (docs/RULES.md, "Command
+    /// lines" and "Refusals")
     pub fn line(&mut self, line: &[u8], buffer: &mut [u8]) -> Result<usize, Refused>
         ensures sheet { self.new.sheet ≡ self.old.sheet }
         ensures done { LineDone S.Strategy H.LampHead self.old line.now buffer.old self.new buffer.new result }
@@ -148,7 +149,7 @@ impl<S: Strategy, H: LampHead> Station<S, H> {
 
     /// A breaker reset: restores the head and gives standby, local mode, not wanted and no centre's cycle. All else
     /// stays, the counts too, but for the seconds shown since standby. A station that is not tripped refuses it with
-    /// `NotTripped` and is not altered. (docs/RULES.md, "The breaker" and "Where rules left room")
+    /// `NotTripped`, refusal 10, and is not altered. (docs/RULES.md, "The breaker" and "Where rules left room")
     pub fn reset(&mut self) -> Result<(), Refused>
         ensures sheet { self.new.sheet ≡ self.old.sheet }
         ensures done { ResetDone S.Strategy H.LampHead self.old self.new result }

@@ -1,7 +1,8 @@
-use Rattle.std.proofs.Common.{◌≡◌, Bool, true, false, cond, List, Ok, Err, refl, ap, ◌∙◌}
+use Rattle.std.proofs.Common.{◌≡◌, Bool, true, false, cond, List, Some, None, Ok, Err, Result, refl, ap, ◌∙◌}
 use Rattle.loops.specs.Rules.{Second}
+use Rattle.control.specs.declared.answer.Refused.{Refused}
 use Rattle.control.specs.declared.answer.Refused.TheVariants.{NotTripped}
-use Rattle.control.specs.Lines.{after_reset, reset_answer, reset_taken}
+use Rattle.control.specs.Lines.{refusal_in, after_reset, reset_answer, reset_refusal, reset_taken}
 use Rattle.control.specs.Model.{Model}
 use Rattle.control.specs.Phases.{is_tripped}
 use Rattle.station.specs.Station.{model}
@@ -14,6 +15,14 @@ reset-is m b e = ap (λ x. cond x (reset_taken m) m) e
 answer-is : {S : Type 0} (m : Model S) (b : Bool) → b ≡ is_tripped m.stage → cond b (Ok tt) (Err NotTripped) ≡ reset_answer m
 answer-is m b e = ap (λ x. cond x (Ok tt) (Err NotTripped)) e
 
+-- the refusal in that answer is the one that is due
+told-by : (b : Bool) → refusal_in {A = Unit {0}} (cond b (Ok tt) (Err NotTripped)) ≡ cond b None (Some (record { number = 10; value = None }))
+told-by true = refl
+told-by false = refl
+
+told-is : {S : Type 0} (m : Model S) (r : Result (Unit {0}) Refused) → r ≡ reset_answer m → refusal_in r ≡ reset_refusal m
+told-is m r e = ap refusal_in e ∙ told-by (is_tripped m.stage)
+
 pub returns-then-not-is_tripped : goal.returns-then-not-is_tripped
 returns-then-not-is_tripped g c =
     let hd = g.H.LampHead in
@@ -25,6 +34,7 @@ returns-then-not-is_tripped g c =
         stands = λ ss h. h;
         becomes = λ ss. reset-is (model hd self ss) false e;
         answers = λ ss. answer-is (model hd self ss) false e;
+        told = λ ss. told-is (model hd self ss) (Err NotTripped) (answer-is (model hd self ss) false e);
         unaltered = refl;
       };
       lived = λ s h l. (l.0, l.1, (model hd self l.0, l.2, reset-is (model hd self l.0) false e, answer-is (model hd self l.0) false e, refl));
@@ -56,6 +66,7 @@ returns g c =
         stands = λ ss h. record { holds = h.holds; figures = h.figures };
         becomes = λ ss. same ss ∙ reset-is (model hd self ss) true e;
         answers = λ ss. answer-is (model hd self ss) true e;
+        told = λ ss. told-is (model hd self ss) (Ok tt) (answer-is (model hd self ss) true e);
         unaltered = tt;
       };
       lived = λ s h l. (l.0, record { holds = l.1.holds; figures = l.1.figures }, (model hd self l.0, l.2, same l.0 ∙ reset-is (model hd self l.0) true e, answer-is (model hd self l.0) true e, refl));
