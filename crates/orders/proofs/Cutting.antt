@@ -65,12 +65,27 @@ pub run_law : (n : ℕ) (xs : List ℕ) → word_here xs ≡ true → tokens_fro
 run_law n [] h = absurd (false≢true h)
 run_law n (b ∷ bs) h = rw (word_law n b bs h, h, one-add) (ap (λ m. part (b ∷ take (prefix_len in_word bs) bs) n ∷ tokens_from m (drop (prefix_len in_word bs) bs)) (omega arith))
 
+-- it keeps its first byte
+word_kept : (xs : List ℕ) → word_here xs ≡ true → word_here (take (prefix_len in_word xs) xs) ≡ true
+word_kept [] h = h
+word_kept (b ∷ bs) h =
+    let q : prefix_len in_word (b ∷ bs) ≡ suc (prefix_len in_word bs) = cond-true (in_word b) _ 0 h ∙ one-add (prefix_len in_word bs) in
+    ap (λ m. word_here (take m (b ∷ bs))) q ∙ h
+
 -- the same of the token at a place of the line
 module _ (line : List ℕ) (n : ℕ) (in-line : n < length line) where
-  pub mark_at : (k : ℕ) → get_or line n 0 ≡ k → is_mark k ≡ true → tokens_from n (drop n line) ≡ part (k ∷ []) n ∷ tokens_from (n + 1) (drop (n + 1) line)
-  mark_at k e m =
+  -- one byte is cut off
+  pub sign_text : (k : ℕ) → get_or line n 0 ≡ k → (t : List ℕ) → t ≡ take 1 (drop n line) → t ≡ k ∷ []
+  sign_text k e t s = s ∙ ap (take 1) (drop_more line n 0 in-line) ∙ ap (λ b. b ∷ []) e
+
+  pub mark_at : (k : ℕ) → get_or line n 0 ≡ k → is_mark k ≡ true → (t : List ℕ) → t ≡ take 1 (drop n line) → tokens_from n (drop n line) ≡ part t n ∷ tokens_from (n + length t) (drop (n + length t) line)
+  mark_at k e m t s =
       ap (tokens_from n) (drop_more line n 0 in-line ∙ ap (λ b. b ∷ drop (n + 1) line) e) ∙
-      mark_law n k _ m ∙ ap (λ j. part (k ∷ []) n ∷ tokens_from j (drop (n + 1) line)) (sym (add-one n))
+      mark_law n k _ m ∙ ap (λ j. part (k ∷ []) n ∷ tokens_from j (drop (n + 1) line)) (sym (add-one n)) ∙
+      sym (ap (λ x. part x n ∷ tokens_from (n + length x) (drop (n + length x) line)) (sign_text k e t s))
+
+  pub word_text : in_word (get_or line n 0) ≡ true → (t : List ℕ) → t ≡ take (prefix_len in_word (drop n line)) (drop n line) → word_here t ≡ true
+  word_text h t e = ap word_here e ∙ word_kept (drop n line) (ap word_here (drop_more line n 0 in-line) ∙ h)
 
   pub word_at : in_word (get_or line n 0) ≡ true → (t : List ℕ) → t ≡ take (prefix_len in_word (drop n line)) (drop n line) → tokens_from n (drop n line) ≡ part t n ∷ tokens_from (n + length t) (drop (n + length t) line)
   word_at h t e =

@@ -1,5 +1,6 @@
 -- What the reader's own values stand for, and what its steps answer.
-use Rattle.std.specs.Prelude.{◌≡◌, ℕ, ◌+◌, Bool, false, cond, List, [], ◌∷◌, ◌++◌, length, drop, Some, None, Ok, Err, codes, Option, Result}
+use Rattle.std.specs.Prelude.{◌≡◌, ℕ, ◌+◌, Bool, true, false, cond, List, [], ◌∷◌, ◌++◌, length, drop, codes}
+use Rattle.std.specs.Prelude.{Some, None, Ok, Err, Option, Result}
 use Prim.Native.String.{String}
 use Rattle.std.specs.Str.{bytes_eq}
 use Rattle.orders.specs.declared.fault.OrderFault.{OrderFault}
@@ -9,22 +10,29 @@ use Rattle.orders.specs.declared.order.Order.TheVariants.{Central, Local}
 use Rattle.orders.specs.declared.token.Token.{Token}
 use Rattle.orders.specs.declared.token.Token.TheVariants.{Word, Comma, Equals, Slash}
 use Rattle.orders.specs.declared.tokens.Tokens.{Tokens}
-use Rattle.orders.specs.Tokens.{Part, part, tokens_from, tokens_of}
+use Rattle.orders.specs.Tokens.{Part, part, word_here, tokens_from, tokens_of}
 use Rattle.orders.specs.Lines.{Slot, Meaning, Form, form, Verdict, lines, slots_of, takes, found, form_order}
 
 -- the bytes of a token
 abbrev pub text_of : Token → List ℕ
 text_of (Word t p) = t.now
-text_of (Comma p) = 44 ∷ []
-text_of (Equals p) = 61 ∷ []
-text_of (Slash p) = 47 ∷ []
+text_of (Comma t p) = t.now
+text_of (Equals t p) = t.now
+text_of (Slash t p) = t.now
 
 -- the place of a token
 abbrev pub place_of : Token → ℕ
 place_of (Word t p) = p
-place_of (Comma p) = p
-place_of (Equals p) = p
-place_of (Slash p) = p
+place_of (Comma t p) = p
+place_of (Equals t p) = p
+place_of (Slash t p) = p
+
+-- a token is of the kind that its text says: a word begins with a byte of words, and each sign is that sign
+abbrev pub IsOfKind : Token → Type 0
+IsOfKind (Word t p) = word_here t.now ≡ true
+IsOfKind (Comma t p) = t.now ≡ codes ","
+IsOfKind (Equals t p) = t.now ≡ codes "="
+IsOfKind (Slash t p) = t.now ≡ codes "/"
 
 -- the part of the line that a token is
 abbrev pub part_of : Token → Part

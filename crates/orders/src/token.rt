@@ -1,24 +1,24 @@
 // The tokens of a line, and the bytes that they are made of.
-ghost use Rattle.std.specs.Prelude.{◌≡◌, ◌+◌, ◌<◌, ◌≤◌, true, length, drop, position, slice_index};
+ghost use Rattle.std.specs.Prelude.{◌≡◌, ◌+◌, ◌<◌, ◌≤◌, true, length, drop, position, slice_index, slice_range};
 ghost use Rattle.std.specs.List.{prefix_len};
 ghost use Rattle.orders.specs.declared.fault.OrderFault.TheVariants.{Token as NoSuchToken};
 ghost use Rattle.orders.specs.Tokens.{in_word, is_mark, in_token, known};
-ghost use Rattle.orders.specs.Reading.{text_of, place_of, FirstAt};
+ghost use Rattle.orders.specs.Reading.{text_of, place_of, FirstAt, IsOfKind};
 
 use crate::fault::OrderFault;
 
-/// A part of a line: a word or one of three signs, with the place of its first byte in the line, counted from 0.
-/// (docs/RULES.md, "Command lines")
+/// A part of a line: a word or one of three signs, with its bytes and the place in the line of the first of them,
+/// counted from 0. (docs/RULES.md, "Command lines")
 #[derive(Clone, Copy)]
 pub enum Token<'a> {
     /// A run of capitals, digits and dots, as long as it can be.
     Word { text: &'a [u8], place: usize },
     /// The sign `,`.
-    Comma { place: usize },
+    Comma { text: &'a [u8], place: usize },
     /// The sign `=`.
-    Equals { place: usize },
+    Equals { text: &'a [u8], place: usize },
     /// The sign `/`.
-    Slash { place: usize },
+    Slash { text: &'a [u8], place: usize },
 }
 
 impl<'a> Token<'a> {
@@ -27,10 +27,10 @@ impl<'a> Token<'a> {
         ensures { result.now ≡ text_of self.now }
     {
         match *self {
-            Token::Word { text, .. } => text,
-            Token::Comma { .. } => b",",
-            Token::Equals { .. } => b"=",
-            Token::Slash { .. } => b"/",
+            Token::Word { text, .. }
+            | Token::Comma { text, .. }
+            | Token::Equals { text, .. }
+            | Token::Slash { text, .. } => text,
         }
     }
 
@@ -40,9 +40,9 @@ impl<'a> Token<'a> {
     {
         match *self {
             Token::Word { place, .. }
-            | Token::Comma { place }
-            | Token::Equals { place }
-            | Token::Slash { place } => place,
+            | Token::Comma { place, .. }
+            | Token::Equals { place, .. }
+            | Token::Slash { place, .. } => place,
         }
     }
 
@@ -96,23 +96,25 @@ fn word_length(text: &[u8]) -> usize
     text.iter().take_while(|byte| is_word(**byte)).count()
 }
 
-/// The token that begins at this place; a word is taken as long as it can be.
+/// The token that begins at this place: a sign, or a word as long as it can be.
 pub(crate) fn token_at<'a>(line: &'a [u8], place: usize) -> Token<'a>
     requires within { place < length line.now }
     requires begins { in_token (slice_index line.now place) ≡ true }
     ensures first { FirstAt place line.now result }
     ensures within { place + length (text_of result) ≤ length line.now }
+    ensures kind { IsOfKind result }
+    ensures place { place_of result ≡ place }
+    ensures part { text_of result ≡ slice_range line.now place (place + length (text_of result)) }
 {
+    let rest = &line[place..];
+    let sign = &rest[..1];
     match line[place] {
-        b',' => Token::Comma { place },
-        b'=' => Token::Equals { place },
-        b'/' => Token::Slash { place },
-        _ => {
-            let rest = &line[place..];
-            Token::Word {
-                text: &rest[..word_length(rest)],
-                place,
-            }
-        }
+        b',' => Token::Comma { text: sign, place },
+        b'=' => Token::Equals { text: sign, place },
+        b'/' => Token::Slash { text: sign, place },
+        _ => Token::Word {
+            text: &rest[..word_length(rest)],
+            place,
+        },
     }
 }
