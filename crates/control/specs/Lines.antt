@@ -3,6 +3,8 @@ use Rattle.std.specs.Prelude.{ℕ, Bool, true, false, cond, List, [], ◌++◌, 
 use Rattle.std.specs.Option.{option_map, option_or}
 use Rattle.sheet.specs.declared.sheet.Sheet.{Sheet}
 use Rattle.lamps.specs.declared.colour.Colour.TheVariants as colour
+use Rattle.records.specs.declared.phase.Phase.{Phase}
+use Rattle.records.specs.declared.phase.Phase.TheVariants as phase
 use Rattle.orders.specs.declared.order.Order.{Order}
 use Rattle.orders.specs.declared.order.Order.TheVariants as order
 use Rattle.orders.specs.declared.fault.OrderFault.{OrderFault}
@@ -19,7 +21,7 @@ use Rattle.control.specs.declared.command.Mode.{Mode}
 use Rattle.control.specs.declared.command.Mode.TheVariants.{Local, Central}
 use Rattle.control.specs.Figures.{JC}
 use Rattle.control.specs.Model.{Model}
-use Rattle.control.specs.Phases.{running_cycle, is_tripped}
+use Rattle.control.specs.Phases.{phase_of, running_cycle, is_tripped}
 
 -- the number and the value that a refusal is told by: those of the order's faults are the reader's
 abbrev pub telling_of : Refused → Refusal
@@ -62,15 +64,20 @@ commanded order.Off c = record { mode = c.mode; wanted = false; centre_cycle = c
 commanded order.Status c = c
 commanded order.Cycles c = c
 
--- the letter of the status reading: V standby, H tripped, S else
-abbrev pub status_letter : Stage → ℕ
-status_letter stage.Standby = 86
-status_letter stage.Tripped = 72
-status_letter s = 83
+-- the letter of the status reading: V (86) in standby, H (72) when tripped, and S (83) in the other six phases
+abbrev pub status_letter : Phase → ℕ
+status_letter phase.Standby = 86
+status_letter phase.OpeningFlash = 83
+status_letter phase.OpeningAmber = 83
+status_letter phase.OpeningRed = 83
+status_letter phase.Metering = 83
+status_letter phase.Draining = 83
+status_letter phase.Closing = 83
+status_letter phase.Tripped = 72
 
 -- what an order answers: nothing, but for the status readings
 abbrev pub reply_of : Sheet → Stage → Order → List ℕ
-reply_of f s order.Status = status_text (status_letter s)
+reply_of f s order.Status = status_text (status_letter (phase_of s))
 reply_of f s order.Cycles = cycles_text (running_cycle s) (JC f)
 reply_of f s o = []
 

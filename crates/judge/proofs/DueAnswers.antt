@@ -1,5 +1,5 @@
 -- How a station stands by its history is how it stands.
-use Rattle.std.proofs.Common.{◌≡◌, ℕ, Bool, true, false, cond, List, [], ◌∷◌, length, is_ok, None, Ok, Err, Result, sym, refl, ap, ◌∙◌}
+use Rattle.std.proofs.Common.{◌≡◌, ℕ, Bool, true, false, cond, List, [], ◌∷◌, length, is_ok, Ok, Err, Result, sym, refl, ap, ◌∙◌}
 use Rattle.sheet.specs.declared.sheet.Sheet.{Sheet}
 use Rattle.strategy.specs.declared.strategy.Strategy.{Ghosts as StrategyMeaning}
 use Rattle.orders.specs.declared.order.Order.{Order}
@@ -8,30 +8,17 @@ use Rattle.orders.specs.declared.fault.OrderFault.{OrderFault}
 use Rattle.orders.specs.Orders.{order_of}
 use Rattle.control.specs.declared.answer.Refused.{Refused}
 use Rattle.control.specs.declared.answer.Refused.TheVariants as refused
-use Rattle.control.specs.declared.stage.Stage.{Stage}
-use Rattle.control.specs.declared.stage.Stage.TheVariants as stage
 use Rattle.control.specs.declared.command.Command.{Command}
-use Rattle.control.specs.declared.command.Mode.{Mode}
 use Rattle.control.specs.declared.command.Mode.TheVariants.{Local}
-use Rattle.control.specs.Lines.{line_answer, answer_to, obeyed, status_letter, answered_by, refused_by, reset_taken}
+use Rattle.control.specs.Lines.{line_answer, answer_to, obeyed, reset_taken}
 use Rattle.control.specs.Model.{Model}
 use Rattle.control.specs.Phases.{phase_of, running_cycle, is_tripped}
 use Rattle.runlaw.specs.History.{History, Second, Line, Reset, WentThrough}
 use Rattle.runlaw.proofs.Runs.{tripped_shown_lem, phase_shown_lem, cycle_shown_lem}
 use Rattle.judge.specs.declared.standing.Standing.{Standing}
 use Rattle.judge.specs.Centre.{mode_by_line, mode_of}
-use Rattle.judge.specs.Due.{letter_of, answer_due, reset_answer_due, standing_of}
-use Rattle.judge.specs.DueHolds.{AnswersAreDue, DueHolds}
-
-letter_same : (t : Stage) → status_letter t ≡ letter_of (phase_of t)
-letter_same stage.Standby = refl
-letter_same (stage.OpeningFlash n) = refl
-letter_same (stage.OpeningAmber n) = refl
-letter_same (stage.OpeningRed n) = refl
-letter_same (stage.Metering m) = refl
-letter_same stage.Draining = refl
-letter_same (stage.Closing n) = refl
-letter_same stage.Tripped = refl
+use Rattle.judge.specs.Due.{answer_due, reset_answer_due, standing_of}
+use Rattle.judge.specs.DueHolds.{DueHolds}
 
 -- the mode after a line: taken or refused, in the words of the history and in the station's
 line_mode :
@@ -80,7 +67,7 @@ module _ {S : Type 0} (st : StrategyMeaning S) (f : Sheet) where
   answer_same m room (Ok order.Local) = refl
   answer_same m room (Ok (order.Cycle n)) = refl
   answer_same m room (Ok order.Off) = refl
-  answer_same m room (Ok order.Status) = ap (λ n. answered_by room None (n ∷ [])) (letter_same m.stage)
+  answer_same m room (Ok order.Status) = refl
   answer_same m room (Ok order.Cycles) = refl
 
   pub due_holds : (s : S) → DueHolds st f s

@@ -2,8 +2,6 @@
 use Rattle.std.specs.Prelude.{ℕ, cond, not, ◌&&◌, List, [], Ok, Err, Result}
 use Rattle.sheet.specs.declared.sheet.Sheet.{Sheet}
 use Rattle.strategy.specs.declared.strategy.Strategy.{Ghosts as StrategyMeaning}
-use Rattle.records.specs.declared.phase.Phase.{Phase}
-use Rattle.records.specs.declared.phase.Phase.TheVariants.{Standby, OpeningFlash, OpeningAmber, OpeningRed, Metering, Draining, Closing, Tripped}
 use Rattle.orders.specs.declared.order.Order.{Order}
 use Rattle.orders.specs.declared.order.Order.TheVariants as order
 use Rattle.orders.specs.declared.fault.OrderFault.{OrderFault}
@@ -12,23 +10,12 @@ use Rattle.reply.specs.Replies.{status_text, cycles_text}
 use Rattle.control.specs.declared.answer.Refused.{Refused}
 use Rattle.control.specs.declared.answer.Refused.TheVariants as refused
 use Rattle.control.specs.Figures.{JC}
-use Rattle.control.specs.Lines.{refused_by, answered_by}
+use Rattle.control.specs.Lines.{refused_by, answered_by, status_letter}
 use Rattle.runlaw.specs.History.{History}
 use Rattle.runlaw.specs.Log.{reset_since, log, phase_shown, cycle_shown}
 use Rattle.runlaw.specs.RunLaw.{trip_stands}
 use Rattle.judge.specs.declared.standing.Standing.{Standing}
 use Rattle.judge.specs.Centre.{mode_of}
-
--- the letter of the status reading in this phase: V standby, H tripped, S else
-abbrev pub letter_of : Phase → ℕ
-letter_of Standby = 86
-letter_of OpeningFlash = 83
-letter_of OpeningAmber = 83
-letter_of OpeningRed = 83
-letter_of Metering = 83
-letter_of Draining = 83
-letter_of Closing = 83
-letter_of Tripped = 72
 
 -- what an order is due to answer: nothing, but for the status readings
 abbrev pub reply_due : Sheet → Standing → Order → List ℕ
@@ -36,7 +23,7 @@ reply_due f t order.Central = []
 reply_due f t order.Local = []
 reply_due f t (order.Cycle n) = []
 reply_due f t order.Off = []
-reply_due f t order.Status = status_text (letter_of t.phase)
+reply_due f t order.Status = status_text (status_letter t.phase)
 reply_due f t order.Cycles = cycles_text t.cycle (JC f)
 
 -- what a line with this order, or this fault, is due to answer where the buffer has so much room

@@ -2,9 +2,9 @@
 ghost use Rattle.std.specs.Prelude.{◌≡◌, ◌≤◌, length, IfOk};
 ghost use Rattle.control.specs.Lines.{fitted, refused_by, answered_by, bytes_of, buffer_after};
 ghost use Rattle.orders.specs.Orders.{order_of};
-ghost use Rattle.judge.specs.Due.{letter_of, reply_due, answer_due, reset_answer_due};
+ghost use Rattle.judge.specs.Due.{reply_due, answer_due, reset_answer_due};
 
-use control::{Mode, Refused, check_order};
+use control::{Mode, Refused, check_order, status_letter};
 use orders::{Order, read_order};
 use records::Phase;
 use reply::{cycles_reply, status_reply};
@@ -21,17 +21,6 @@ pub(crate) struct Standing {
 }
 
 impl Standing {
-    // The letter that line `P` is due to answer: `V` in standby, `H` when tripped, else `S`.
-    fn letter(self) -> u8
-        ensures { result ≡ letter_of self.phase }
-    {
-        match self.phase {
-            Phase::Standby => b'V',
-            Phase::Tripped => b'H',
-            _ => b'S',
-        }
-    }
-
     // Writes the reply that is due to an order and returns its bytes; only status readings have one.
     fn reply_to(self, sheet: &Sheet, order: Order, buffer: &mut [u8]) -> Result<usize, Refused>
         ensures count { result ≡ bytes_of (fitted (length buffer.old) (reply_due sheet.now self order)) }
@@ -40,7 +29,7 @@ impl Standing {
         ensures few { IfOk result (λ n. n ≤ 34) }
     {
         match order {
-            Order::Status => Ok(status_reply(self.letter(), buffer)?),
+            Order::Status => Ok(status_reply(status_letter(self.phase), buffer)?),
             Order::Cycles => Ok(cycles_reply(self.cycle, sheet.figures().window_flash, buffer)?),
             Order::Central | Order::Local | Order::Cycle(_) | Order::Off => Ok(0),
         }

@@ -17,6 +17,7 @@ use crate::second::{
 };
 use control::{
     Answer, Command, Conditions, Counts, Queue, Refused, Stage, check_order, in_calendar, is_dark,
+    status_letter,
 };
 use lamps::{LampHead, LampWords};
 use loops::PeriodTally;
@@ -195,7 +196,7 @@ impl<S, H> Station<S, H> {
         ensures few { IfOk result (λ n. n ≤ 34) }
     {
         match order {
-            Order::Status => Ok(status_reply(self.stage.letter(), buffer)?),
+            Order::Status => Ok(status_reply(status_letter(self.stage.phase()), buffer)?),
             Order::Cycles => {
                 let window_flash = self.sheet.figures().window_flash;
                 Ok(cycles_reply(self.stage.running_cycle(), window_flash, buffer)?)
