@@ -77,9 +77,12 @@ status_letter phase.Tripped = 72
 
 -- what an order answers: nothing, but for the status readings
 abbrev pub reply_of : Sheet → Stage → Order → List ℕ
+reply_of f s order.Central = []
+reply_of f s order.Local = []
+reply_of f s (order.Cycle n) = []
+reply_of f s order.Off = []
 reply_of f s order.Status = status_text (status_letter (phase_of s))
 reply_of f s order.Cycles = cycles_text (running_cycle s) (JC f)
-reply_of f s o = []
 
 -- a reply has to fit the buffer
 abbrev pub fitted : (room : ℕ) → List ℕ → Result (List ℕ) Refused

@@ -1,7 +1,7 @@
 -- What an observer writes down, from a history alone: a row for each second, the newest first. None of the station's steps is used here:
 -- the observer has the sheet, the strategy's meaning and the state with which the station was opened, the reading of command lines, and the
 -- rule that makes a measure of a period's readings.
-use Rattle.std.specs.Prelude.{ℕ, ◌+◌, ◌*◌, ◌%◌, Bool, true, false, cond, not, ◌&&◌, ◌||◌, List, [], ◌∷◌, ◌++◌, length, is_some, is_ok, Some, None, Ok, Option, Result, nat_lt}
+use Rattle.std.specs.Prelude.{ℕ, ◌+◌, ◌*◌, ◌%◌, Bool, true, false, cond, not, ◌&&◌, ◌||◌, List, [], ◌∷◌, ◌++◌, length, is_some, is_ok, Some, None, Ok, Err, Option, Result, nat_lt}
 use Rattle.sheet.specs.declared.sheet.Sheet.{Sheet}
 use Rattle.strategy.specs.declared.measure.Measure.{Measure}
 use Rattle.strategy.specs.declared.strategy.Strategy.{Ghosts as StrategyMeaning}
@@ -93,9 +93,13 @@ reset_since (Reset r c ∷ h) = is_ok r || reset_since h
 
 -- what a taken line makes of the centre's cycle: the cycle line sets it, the local-mode line clears it
 abbrev pub cycle_by_line : Result Order OrderFault → Option ℕ → Option ℕ
+cycle_by_line (Err e) o = o
+cycle_by_line (Ok order.Central) o = o
 cycle_by_line (Ok order.Local) o = None
 cycle_by_line (Ok (order.Cycle n)) o = Some n
-cycle_by_line read o = o
+cycle_by_line (Ok order.Off) o = o
+cycle_by_line (Ok order.Status) o = o
+cycle_by_line (Ok order.Cycles) o = o
 
 -- the centre's cycle: taken lines set and clear it, a taken breaker reset clears it
 abbrev pub centres_cycle : History → Option ℕ
