@@ -102,7 +102,7 @@ abbrev pub no_room : (room : ℕ) → List ℕ → Option Refusal
 no_room room reply = cond (nat_lt room (length reply)) (Some (record { number = 11; value = Some (length reply) })) None
 
 -- the refusal that is due to a line at this stage and in this mode: 4 to 7 where it gives no order, with the length of
--- the line or the place of the fault; 8 or 9 where its order is not taken; 11 where the buffer is too short for its reply
+-- the line or the place of the fault; 8 or 9 where its order is not taken; 11 where its reply is longer than the buffer
 abbrev pub refusal_to : Sheet → Stage → Mode → (room : ℕ) → Result Order OrderFault → Option Refusal
 refusal_to f s mode room (Err e) = Some (refusal_of e)
 refusal_to f s mode room (Ok o) =

@@ -79,9 +79,9 @@ module _ {S H : Type 0} (st : StrategyMeaning S) (hd : HeadMeaning H) where
     pub periods : PutInto ps ps' (period_put st before.sheet (model hd before ss) g)
     pub alarms : PutInto ls ls' (alarm_put st before.sheet (model hd before ss) g)
 
-  -- what a command line does: its answer is the one that the rules say, its refusal has the number, 4 to 9 or 11, and the
-  -- value that they give, the buffer has the reply at its front and no other byte altered, and a line that is taken alters
-  -- mode, wanted and the centre's cycle as its order says; a refusal alters nothing at all
+  -- what a command line does: its answer is the one that the rules say, its refusal has the number, 4 to 9 or 11, and
+  -- the value that they give, the buffer has the reply at its front and no other byte altered, and a line that is taken
+  -- alters mode, wanted and the centre's cycle as its order says; a refusal alters nothing at all
   pub record LineDone (before : Station S H) (line buffer : List ℕ) (behind : Station S H) (buffer' : List ℕ) (r : Result ℕ Refused) : Type 0 where
     pub answers : (ss : List Readings) → r ≡ bytes_of (line_answer before.sheet (model hd before ss) line (length buffer))
     pub told : (ss : List Readings) → refusal_in r ≡ line_refusal before.sheet (model hd before ss) line (length buffer)

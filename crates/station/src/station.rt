@@ -132,9 +132,9 @@ impl<S: Strategy, H: LampHead> Station<S, H> {
     }
 
     /// A command line. A status reading writes its answer to the front of the buffer and returns its bytes, 34 at most;
-    /// the other lines write nothing and return 0. Refusals 4 to 9 and 11, each with the value that the table of refusals
-    /// gives it, alter neither station nor buffer; a buffer of 34 bytes is never too short. (docs/RULES.md, "Command
-    /// lines" and "Refusals")
+    /// the other lines write nothing and return 0. Refusals 4 to 9 and 11, each with the value that the table of
+    /// refusals gives it, alter neither station nor buffer; a buffer of 34 bytes is never too short. (docs/RULES.md,
+    /// "Command lines" and "Refusals")
     pub fn line(&mut self, line: &[u8], buffer: &mut [u8]) -> Result<usize, Refused>
         ensures sheet { self.new.sheet ≡ self.old.sheet }
         ensures done { LineDone S.Strategy H.LampHead self.old line.now buffer.old self.new buffer.new result }
