@@ -1,5 +1,5 @@
-// A run under two step limiters: acts of every kind, with refusals, a trip and a reset in between. What each act answers
-// and leaves behind was worked out by hand from the rules.
+// A run under two step limiters: acts of every kind, with refusals, a trip and a reset in between. What each act
+// answers and leaves behind was worked out by hand from the rules.
 use control::Mode;
 use lamps::{ChosenHead, Colour, RelayHead};
 use plan::Word;

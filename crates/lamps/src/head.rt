@@ -50,8 +50,8 @@ pub trait LampHead {
         ensures shows { shows self.new ≡ shows self.old };
 }
 
-/// A head that can also give a lamp word for a set of lamps, so that a plan with `ok` words can be replayed. A head of a
-/// cabinet need not.
+/// A head that can also give a lamp word for a set of lamps, so that a plan with `ok` words can be replayed. A cabinet
+/// needs no such head.
 pub trait LampWords: LampHead {
     /// A word that stands for this set.
     fn word_for(&self, lit: LampSet) -> u32

@@ -1,3 +1,3 @@
 pub mod Cuts
 pub mod Reading
-pub mod Alone
+pub mod Plain

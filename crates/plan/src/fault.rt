@@ -80,7 +80,8 @@ impl fmt::Display for RowFault {
         match self {
             RowFault::UnknownKind => write!(
                 f,
-                "field 1 is no kind of row: sheet, strategy, head, calendar, second, seconds, line, line/N or reset was expected"
+                "field 1 is no kind of row: sheet, strategy, head, calendar, second, seconds, line, line/N or reset \
+                 was expected"
             ),
             RowFault::Missing { field, wanted } => write!(
                 f,

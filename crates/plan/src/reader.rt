@@ -65,7 +65,7 @@ impl Reader {
     }
 
     // Reads a row of this kind from the fields after its name.
-    #[tactic(auto, using(crate::proofs::Alone::plain_row, crate::proofs::Alone::plain_lanes, crate::proofs::Alone::plain_calendar))]
+    #[tactic(auto, using(crate::proofs::Plain::said))]
     fn read_as(&mut self, kind: Kind, fields: &mut Fields<'_>) -> Result<Row, RowFault>
         requires { lanes_kept self.now ≡ [] }
         ensures { ReadAs (said_as kind (fields_left fields.old)) self.old self.new result }
@@ -86,7 +86,7 @@ impl Reader {
     }
 
     // Reads a row of this name from the fields after it.
-    #[tactic(auto, using(crate::proofs::Alone::plain_row, crate::proofs::Alone::plain_lanes, crate::proofs::Alone::plain_calendar), unfolding(crate::specs::Rows::row_named))]
+    #[tactic(auto, using(crate::proofs::Plain::said), unfolding(crate::specs::Rows::row_named))]
     fn read_named(&mut self, name: &[u8], fields: &mut Fields<'_>) -> Result<Row, RowFault>
         requires { lanes_kept self.now ≡ [] }
         ensures { ReadAs (row_named name.now (fields_left fields.old)) self.old self.new result }

@@ -2,7 +2,8 @@
 ghost use Rattle.std.specs.Prelude.{◌≡◌};
 ghost use Rattle.plan.specs.Recorded.{colour_of, phase_of, trip_of, taken_of};
 ghost use Rattle.plan.specs.Words.{reads};
-ghost use Rattle.plan.specs.declared.fault.Wanted.TheVariants.{Taken as ATaken, Colour as AColour, Phase as APhase, Trip as ATrip};
+ghost use Rattle.plan.specs.declared.fault.Wanted.TheVariants.{Taken as ATaken, Colour as AColour};
+ghost use Rattle.plan.specs.declared.fault.Wanted.TheVariants.{Phase as APhase, Trip as ATrip};
 
 use crate::fault::Wanted;
 use crate::value::Value;

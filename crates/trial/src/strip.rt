@@ -60,8 +60,8 @@ impl Strip {
     }
 }
 
-/// A line: the place of its zero, the height of its highest level, which stands for so much, the level now, and the path
-/// before that.
+/// A line: the place of its zero, the height of its highest level, which stands for so much, the level now, and the
+/// path before that.
 #[derive(Drop)]
 pub(crate) struct Line {
     zero: u32,
