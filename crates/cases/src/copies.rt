@@ -52,8 +52,8 @@ fn at_every_place(rt: HostRuntime) {
     for (length, from, many, wanted) in &COPIES {
         let mut nines = [9; 6];
         assert!(rt; *length <= 6);
-        assert_eq!(rt; ring.copy_to(&mut nines[0..*length], *from), *many);
-        assert_eq!(rt; nines, *wanted);
+        let copied = ring.copy_to(&mut nines[0..*length], *from);
+        assert_eq!(rt; (copied, nines), (*many, *wanted));
     }
 }
 
@@ -78,8 +78,8 @@ fn of_plain_numbers(rt: HostRuntime) {
     let places = [1, 2, 3, 4];
     for (next, put, many, wanted) in &KEPT {
         let mut list = [9; 5];
-        assert_eq!(rt; copy_kept(&places, *next, *put, &mut list, 0), *many);
-        assert_eq!(rt; list, *wanted);
+        let copied = copy_kept(&places, *next, *put, &mut list, 0);
+        assert_eq!(rt; (copied, list), (*many, *wanted));
     }
 }
 
@@ -101,7 +101,7 @@ fn over_the_front(rt: HostRuntime) {
     for (there, room, many, wanted) in &FRONTS {
         let mut nines = [9; 4];
         assert!(rt; *there <= 3 && *room <= 4);
-        assert_eq!(rt; copy_front(&source[0..*there], &mut nines[0..*room]), *many);
-        assert_eq!(rt; nines, *wanted);
+        let copied = copy_front(&source[0..*there], &mut nines[0..*room]);
+        assert_eq!(rt; (copied, nines), (*many, *wanted));
     }
 }

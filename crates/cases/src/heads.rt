@@ -52,20 +52,6 @@ const CALLS: [(Call, Colour); 16] = [
     (Call::Restore, Colour::Dark),
 ];
 
-// A new head goes through the calls, and reads the same after each.
-fn colours_are<H: LampHead>(rt: &impl Abort, head: &mut H, word: u32) {
-    assert_eq!(rt; head.ordered(), Colour::Dark);
-    let lit = head.read(word);
-    for (call, colour) in &CALLS {
-        match *call {
-            Call::Order(chosen) => head.order(chosen),
-            Call::Cut => head.cut(),
-            Call::Restore => head.restore(),
-        }
-        assert_eq!(rt; (head.ordered(), head.read(word)), (*colour, lit));
-    }
-}
-
 // The set that a head reads of its own word for a set.
 fn read_back<H: LampWords>(head: &H, lit: u32) -> u32
     ensures { result ≡ lit % 8 }
@@ -89,6 +75,23 @@ const SETS: [(u32, u32); 12] = [
     (4_294_967_295, 7),
 ];
 
+// A new head reads its own word of each set. It goes through the calls, and reads the same after each.
+fn head_is_right<H: LampWords>(rt: &impl Abort, head: &mut H, word: u32) {
+    for (set, lit) in &SETS {
+        assert_eq!(rt; read_back(head, *set), *lit);
+    }
+    assert_eq!(rt; head.ordered(), Colour::Dark);
+    let lit = head.read(word);
+    for (call, colour) in &CALLS {
+        match *call {
+            Call::Order(chosen) => head.order(chosen),
+            Call::Cut => head.cut(),
+            Call::Restore => head.restore(),
+        }
+        assert_eq!(rt; (head.ordered(), head.read(word)), (*colour, lit));
+    }
+}
+
 // Words of the relay head, with the set of their lowest three bits, worked out by hand.
 const RELAY_WORDS: [(u32, u32); 5] = [
     (7, 7),
@@ -102,8 +105,7 @@ const RELAY_WORDS: [(u32, u32); 5] = [
 #[test]
 fn relay_head(rt: HostRuntime) {
     let mut head = RelayHead::new();
-    colours_are(&rt, &mut head, 5);
-    gives(&rt, |lit| read_back(&head, lit), &SETS);
+    head_is_right(&rt, &mut head, 5);
     gives(&rt, |word| head.read(word).bits(), &RELAY_WORDS);
     for step in 0..400u32 {
         let word = step.wrapping_mul(10_764_287);
@@ -128,8 +130,7 @@ const CURRENTS: [(u8, bool); 6] = [
 #[test]
 fn current_head(rt: HostRuntime) {
     let mut head = CurrentHead::new();
-    colours_are(&rt, &mut head, 6_553_600);
-    gives(&rt, |lit| read_back(&head, lit), &SETS);
+    head_is_right(&rt, &mut head, 6_553_600);
     for (red, red_lit) in &CURRENTS {
         for (fixed, fixed_lit) in &CURRENTS {
             for (flashing, flashing_lit) in &CURRENTS {

@@ -74,13 +74,14 @@ fn replied(
     room: usize,
     text: &[u8],
 ) {
-    if text.len() <= room {
-        assert_eq!(rt; answer, Ok(text.len()));
-        holds(rt, buffer, 0, text);
+    let needed = text.len();
+    let (expected, written) = if needed <= room {
+        (Ok(needed), text)
     } else {
-        assert_eq!(rt; answer, Err(NoRoom { needed: text.len() }));
-        holds(rt, buffer, 0, b"");
-    }
+        (Err(NoRoom { needed }), &text[0..0])
+    };
+    assert_eq!(rt; answer, expected);
+    holds(rt, buffer, 0, written);
 }
 
 #[test]

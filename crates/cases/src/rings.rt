@@ -72,12 +72,12 @@ fn newest_are_kept<T: Numbered>(
     many: u32,
     put: u32,
 ) {
-    assert_eq!(rt; ring.count(), put);
-    assert_eq!(rt; ring.len(), many as usize);
     for x in list.iter_mut() {
         *x = T::numbered(0);
     }
-    assert_eq!(rt; ring.copy_to(list, 0), many as usize);
+    let copied = ring.copy_to(list, 0);
+    let kept = many as usize;
+    assert_eq!(rt; (ring.count(), ring.len(), copied), (put, kept, kept));
     newest_come_last(rt, list, many, put);
 }
 
@@ -123,8 +123,8 @@ const PUTS: [((usize, u32), [u32; 3], (usize, u32)); 9] = [
 fn puts_over_plain_numbers(rt: HostRuntime) {
     for ((next, put), wanted, numbers) in &PUTS {
         let mut places = [7, 8, 9];
-        assert_eq!(rt; put_in(&mut places, *next, *put, 1), *numbers);
-        assert_eq!(rt; places, *wanted);
+        let after = put_in(&mut places, *next, *put, 1);
+        assert_eq!(rt; (places, after), (*wanted, *numbers));
     }
     let mut none = [0u32; 0];
     assert_eq!(rt; put_in(&mut none, 0, 0, 1), (0, 1));

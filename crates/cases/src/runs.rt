@@ -59,26 +59,21 @@ fn accepted(rt: &impl Abort) -> Result<Sheet, Fail> {
     }
 }
 
-// The number of the refusal, or 0 for what was taken.
-fn refusal_in(answered: &Answered) -> u32 {
-    match answered.outcome {
-        Outcome::Line(Err(refused)) | Outcome::Reset(Err(refused)) => refused.refusal().number,
-        _ => 0,
-    }
+// The number of an act's refusal (0 for one that was taken), its reply, and what is seen after it: seconds, colour, phase,
+// and whether metering is wanted.
+type Told<'a> = (u32, &'a [u8], u32, Colour, Phase, bool);
+
+fn told(answered: &Answered) -> Told<'_> {
+    let (refusal, reply): (u32, &[u8]) = match &answered.outcome {
+        Outcome::Line(Ok(reply)) => (0, reply.as_slice()),
+        Outcome::Line(Err(refused)) | Outcome::Reset(Err(refused)) => (refused.refusal().number, b""),
+        Outcome::Second(_) | Outcome::Reset(Ok(())) => (0, b""),
+    };
+    let View { seconds, colour, phase, wanted, .. } = answered.view;
+    (refusal, reply, seconds, colour, phase, wanted)
 }
 
-// The bytes of a reply; none of other answers.
-fn reply_in(answered: &Answered) -> &[u8] {
-    match &answered.outcome {
-        Outcome::Line(Ok(reply)) => reply.as_slice(),
-        _ => b"",
-    }
-}
-
-// Of each act: the refusal, the reply, and what is seen after it (seconds, colour, phase, wanted).
-type Expected = (u32, &'static [u8], u32, Colour, Phase, bool);
-
-const EXPECTED: [Expected; 11] = [
+const EXPECTED: [Told<'static>; 11] = [
     // a reset of a station that is not tripped
     (10, b"", 0, Colour::Dark, Phase::Standby, false),
     // central mode, then the centre's cycle, which makes metering wanted
@@ -126,15 +121,8 @@ fn acts_of_every_kind_under_two_limiters(rt: HostRuntime) -> Result<(), Fail> {
     let head = ChosenHead::Relay(RelayHead::new());
     let mut answers = [UNPLAYED; 11];
     let (run, view) = Run::played_through(sheet, strategy, head, &acts, &mut answers);
-    for (answered, (refusal, reply, seconds, colour, phase, wanted)) in answers
-        .iter()
-        .zip(EXPECTED)
-    {
-        assert_eq!(rt; refusal_in(answered), refusal);
-        assert_eq!(rt; reply_in(answered), reply);
-        let seen = answered.view;
-        assert_eq!(rt; (seen.seconds, seen.colour), (seconds, colour));
-        assert_eq!(rt; (seen.phase, seen.wanted), (phase, wanted));
+    for (answered, expected) in answers.iter().zip(&EXPECTED) {
+        assert_eq!(rt; told(answered), *expected);
     }
     assert_eq!(rt; (view.seconds, view.phase), (3, Phase::OpeningFlash));
     let totals = run.totals();

@@ -12,17 +12,15 @@ const ACCEPTED: (u32, u32) = (0, 0);
 
 // The number and the figure of a draft's refusal; accepted or not, the draft's figures are handed on.
 fn refusal_of(rt: &impl Abort, figures: [u32; 22]) -> (u32, u32) {
-    match Draft::new(figures).accept() {
-        Ok(sheet) => {
-            assert_eq!(rt; sheet.figures().figures(), figures);
-            ACCEPTED
-        }
+    let (handed_on, refusal) = match Draft::new(figures).accept() {
+        Ok(sheet) => (sheet.figures().figures(), ACCEPTED),
         Err(refused) => {
-            assert_eq!(rt; refused.draft.figures(), figures);
             let refusal = refused.cause.refusal();
-            (refusal.number, refusal.figure)
+            (refused.draft.figures(), (refusal.number, refusal.figure))
         }
-    }
+    };
+    assert_eq!(rt; handed_on, figures);
+    refusal
 }
 
 // PLAIN with other values for some figures, which are counted from 1.
