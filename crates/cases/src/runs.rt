@@ -66,10 +66,19 @@ type Told<'a> = (u32, &'a [u8], u32, Colour, Phase, bool);
 fn told(answered: &Answered) -> Told<'_> {
     let (refusal, reply): (u32, &[u8]) = match &answered.outcome {
         Outcome::Line(Ok(reply)) => (0, reply.as_slice()),
-        Outcome::Line(Err(refused)) | Outcome::Reset(Err(refused)) => (refused.refusal().number, b""),
+        Outcome::Line(Err(refused)) | Outcome::Reset(Err(refused)) => (
+            refused.refusal().number,
+            b"",
+        ),
         Outcome::Second(_) | Outcome::Reset(Ok(())) => (0, b""),
     };
-    let View { seconds, colour, phase, wanted, .. } = answered.view;
+    let View {
+        seconds,
+        colour,
+        phase,
+        wanted,
+        ..
+    } = answered.view;
     (refusal, reply, seconds, colour, phase, wanted)
 }
 
