@@ -93,7 +93,10 @@ def main():
                         used[pid, began_at] = (work, seconds)
                     time.sleep(0.25)
             said.seek(0)
-            last = [line.strip() for line in said if line.startswith("rt: ok") or " passed, " in line]
+            lines = said.read().split("\n")
+            last = [line.strip() for line in lines if line.startswith("rt: ok") or " passed, " in line]
+            if run.returncode:
+                print("\n".join(lines[-200:]))
         took = time.monotonic() - began
         sums = {}
         for work, seconds in used.values():
