@@ -57,6 +57,16 @@ WHOLE = "if len(self.seconds) < self.sheet.interval_seconds * self.sheet.period_
 TRIP = "        self.head.cut()\n        self.phase = TRIPPED"
 
 BROKEN = [
+    ("a lane's occupancy is the sum of its intervals'", "occupancy=sum(interval.occupancy for interval in intervals) // len(intervals)", "occupancy=sum(interval.occupancy for interval in intervals)"),
+    ("a period's occupancy is the sum of its lanes'", "occupancy=sum(lane.occupancy for lane in lanes) // len(lanes)", "occupancy=sum(lane.occupancy for lane in lanes)"),
+    ("a period's flow is the mean of its lanes'", "flow=sum(lane.flow for lane in lanes)", "flow=sum(lane.flow for lane in lanes) // len(lanes)"),
+    ("a period's flow counts its lanes and not its vehicles", "flow=sum(lane.flow for lane in lanes)", "flow=len(lanes)"),
+    ("an interval's busy milliseconds are its occupancy", "occupancy=busy // sheet.interval_seconds", "occupancy=busy"),
+    ("as many sound as the availability are enough", "100 * sound > sheet.availability * seen", "100 * sound >= sheet.availability * seen"),
+    ("a lane always busy is sound", "        and lane.occupancy != 1_000\n", ""),
+    ("an empty lane beside an occupancy is sound", "        and (lane.flow == 0) == (lane.occupancy == 0)\n", ""),
+    ("a lane of unsound intervals is sound", "        lane.valid\n        and lane.flow", "        lane.flow"),
+    ("a period has a measure whatever its lanes are", "    if not all(lane_is_sound(lane, sheet) for lane in lanes):\n        return None\n", ""),
     ("arrears grow by two", ARREARS, ARREARS.replace("+ 1, MOST", "+ 2, MOST")),
     ("arrears grow in every second", ARREARS, "        self.arrears = min(self.arrears + 1, MOST_ARREARS)\n        self.lasted += 1"),
     ("more arrears are kept", "MOST_ARREARS = 60_000", "MOST_ARREARS = 60_001"),

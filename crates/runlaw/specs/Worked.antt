@@ -39,6 +39,12 @@ busy_interval seen busy = record { seen = seen; sound = seen; busy_ms = busy; in
 abbrev pub two_lanes : List (List LaneTally)
 two_lanes = (busy_interval 3 2199 ∷ busy_interval 4 3108 ∷ []) ∷ (busy_interval 2 1019 ∷ busy_interval 3 2029 ∷ []) ∷ []
 
+-- the same, but for the last interval, which saw five vehicles, of which four were sound
+abbrev pub one_unsound : List (List LaneTally)
+one_unsound =
+    (busy_interval 3 2199 ∷ busy_interval 4 3108 ∷ []) ∷
+    (busy_interval 2 1019 ∷ record { seen = 5; sound = 4; busy_ms = 2029; in_range = true } ∷ []) ∷ []
+
 -- a fresh station after the line that sets central mode
 abbrev pub in_central_mode : Sheet → Alinea → (ℕ → ℕ) → Model Alinea
 in_central_mode f a shows = after_line f (fresh a shows) (codes "PA, AM=PIL, AF=PF/0") 80
@@ -68,6 +74,8 @@ pub record WorkedFigures : Type 0 where
   -- lane 1 has occupancies of 219 and 310, and 264 over both; lane 2 has 101 and 202, and 151; the period has the mean of these,
   -- 207, and the 12 vehicles of both lanes
   pub measure : (f : LoopFigures) → f.interval_seconds ≡ 10 → f.availability ≡ 80 → f.overcount ≡ 600 → measure_of f two_lanes ≡ Some (occupied 12 207)
+  -- one interval of one lane that is not valid leaves the period without a measure
+  pub no_measure : (f : LoopFigures) → f.interval_seconds ≡ 10 → f.availability ≡ 80 → f.overcount ≡ 600 → measure_of f one_unsound ≡ None
   -- the line of a cycle of 120 is read, that of 121 is refused with 7 at place 15, and the off line is read
   pub lines : WorkedLines
   -- in central mode a line with a cycle of 120 is taken and sets it, and one of 121 is refused with 7 at place 15

@@ -13,7 +13,7 @@ use Rattle.strategy.specs.Meanings.{alinea_meaning}
 use Rattle.orders.specs.Lines.{lines}
 use Rattle.orders.proofs.WorkedLines.{worked_lines}
 use Rattle.orders.specs.Tokens.{tokens_from}
-use Rattle.runlaw.specs.Worked.{occupied, Steers, two_lanes}
+use Rattle.runlaw.specs.Worked.{occupied, Steers, two_lanes, one_unsound}
 use Rattle.runlaw.proofs.laws.worked_figures_hold.Goals as goal
 
 -- the flow of such an ALINEA after a close
@@ -33,11 +33,11 @@ abbrev measured : (seconds availability overcount : ℕ) → List (List LaneTall
 measured i a o lanes =
     cond (list_all (sound_by i a o) lanes) (Some (record { flow = sum_by lane_flow lanes; occupancy_permille = mean_of (lane_occupancy i) lanes })) None
 
-two_lanes_measured : (f : LoopFigures) → f.interval_seconds ≡ 10 → f.availability ≡ 80 → f.overcount ≡ 600 → measure_of f two_lanes ≡ Some (occupied 12 207)
+measured_by : (lanes : List (List LaneTally)) (f : LoopFigures) → f.interval_seconds ≡ 10 → f.availability ≡ 80 → f.overcount ≡ 600 → measure_of f lanes ≡ measured 10 80 600 lanes
 unfolding measure_of
-two_lanes_measured f i a o =
-    ap (λ n. measured n f.availability f.overcount two_lanes) i ∙
-    ap (λ n. measured 10 n f.overcount two_lanes) a ∙ ap (λ n. measured 10 80 n two_lanes) o
+measured_by lanes f i a o =
+    ap (λ n. measured n f.availability f.overcount lanes) i ∙
+    ap (λ n. measured 10 n f.overcount lanes) a ∙ ap (λ n. measured 10 80 n lanes) o
 
 pub returns : goal.returns
 unfolding lines tokens_from
@@ -55,7 +55,8 @@ returns c =
       sound_4_of_5 = refl;
       sound_5_of_5 = refl;
       occupancy = refl;
-      measure = two_lanes_measured;
+      measure = measured_by two_lanes;
+      no_measure = measured_by one_unsound;
       lines = worked_lines;
       longest_cycle = λ f a shows. refl;
       cycle_set = λ f a shows. refl;
