@@ -43,7 +43,7 @@ const ONCE: Limits = Limits::Once(5);
 const TWICE: Limits = Limits::Twice { outer: 5, inner: 3 };
 
 // The row of a strategy.
-macro_rules! strategy {
+macro_rules! strategy_row {
     ($limits:expr, $base:expr) => {
         Ok(Row::Strategy(StrategyRow {
             limits: $limits,
@@ -75,23 +75,23 @@ const ROWS: [(&[u8], Result<Row, RowFault>); 26] = [
     (b"line/1000;P\n", Ok(Row::Line { buffer: 1000 })),
     (
         b"strategy;alinea\n",
-        strategy!(Limits::Unlimited, Base::Alinea),
+        strategy_row!(Limits::Unlimited, Base::Alinea),
     ),
     (
         b"strategy;limiter;5;alinea\n",
-        strategy!(ONCE, Base::Alinea),
+        strategy_row!(ONCE, Base::Alinea),
     ),
     (
         b"strategy;limiter;5;limiter;3;alinea\n",
-        strategy!(TWICE, Base::Alinea),
+        strategy_row!(TWICE, Base::Alinea),
     ),
     (
         b"strategy;plan;1;2;3;4;5;6;7;8;9;10;11;12;13;14;15;16;17;18;19;20;21;22;23;24\n",
-        strategy!(Limits::Unlimited, HOURLY),
+        strategy_row!(Limits::Unlimited, HOURLY),
     ),
     (
         b"strategy;limiter;5;limiter;3;plan;1;2;3;4;5;6;7;8;9;10;11;12;13;14;15;16;17;18;19;20;21;22;23;24;\n",
-        strategy!(TWICE, HOURLY),
+        strategy_row!(TWICE, HOURLY),
     ),
     (
         b"sheet;1;2;3;4;5;6;7;8;9;10;11;12;13;14;15;16;17;18;19;20;21;4294967295\n",
