@@ -59,8 +59,8 @@ fn accepted(rt: &impl Abort) -> Result<Sheet, Fail> {
     }
 }
 
-// The number of an act's refusal (0 for one that was taken), its reply, and what is seen after it: seconds, colour, phase,
-// and whether metering is wanted.
+// The number of an act's refusal (0 for one that was taken), its reply, and what is seen after it: seconds, colour,
+// phase, and whether metering is wanted.
 type Told<'a> = (u32, &'a [u8], u32, Colour, Phase, bool);
 
 fn told(answered: &Answered) -> Told<'_> {
