@@ -1,5 +1,5 @@
 // The calendar: the minutes of the week in which metering is wanted in local mode.
-ghost use Rattle.std.specs.Prelude.{◌≡◌, ◌&&◌};
+ghost use Rattle.std.specs.Prelude.{◌≡◌};
 ghost use Rattle.control.specs.Seconds.{in_range, in_calendar};
 
 use sheet::MinuteRange;

@@ -1,5 +1,5 @@
 // Mode, centre's cycle and whether metering is wanted: what the centre's orders and the calendar make of them.
-ghost use Rattle.std.specs.Prelude.{◌≡◌, ◌&&◌};
+ghost use Rattle.std.specs.Prelude.{◌≡◌};
 ghost use Rattle.control.specs.Lines.{in_mode, refused_by, unless_refused, commanded};
 ghost use Rattle.control.specs.Figures.{service_seconds};
 ghost use Rattle.control.specs.Seconds.{wanted_after};

@@ -1,6 +1,5 @@
 // The counts of a station, and what a second makes of them.
 ghost use Rattle.std.specs.Prelude.{◌≡◌, if◌then◌else◌};
-ghost use Rattle.records.specs.Kept.{count_after};
 ghost use Rattle.control.specs.Seconds.{counted_if, counts_after};
 
 use crate::stage::Stage;

@@ -1,5 +1,5 @@
 // The queue on the ramp: for how long it has been full, and for how long cleared. (docs/RULES.md, "One second")
-ghost use Rattle.std.specs.Prelude.{◌≡◌, min, ◌&&◌, nat_le, nat_lt};
+ghost use Rattle.std.specs.Prelude.{◌≡◌, ◌&&◌, nat_le, nat_lt};
 ghost use Rattle.control.specs.Figures.{TO1, TO2};
 ghost use Rattle.control.specs.Seconds.{counted_to, queue_after};
 

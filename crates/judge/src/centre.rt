@@ -1,6 +1,5 @@
 // Mode and centre's cycle, as command lines that were taken have set them.
 ghost use Rattle.std.specs.Prelude.{◌≡◌, Ok};
-ghost use Rattle.orders.specs.declared.order.Order.{Order};
 ghost use Rattle.runlaw.specs.Log.{cycle_by_line, length_by};
 ghost use Rattle.judge.specs.Centre.{mode_by_line};
 

@@ -1,5 +1,5 @@
 // Putting into a ring; also for places and numbers kept outside a `Ring`.
-ghost use Rattle.std.specs.Prelude.{◌≡◌, ◌+◌, min, [], ◌∷◌, ◌++◌, slice_set};
+ghost use Rattle.std.specs.Prelude.{◌≡◌, min, [], ◌∷◌, ◌++◌, slice_set};
 ghost use Rattle.records.specs.Kept.{count_after, room_of, place_of, following, next_after};
 ghost use Rattle.records.specs.Kept.{places_after, kept, last_of};
 

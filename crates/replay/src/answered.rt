@@ -1,5 +1,5 @@
 // What the acts of a plan returned.
-ghost use Rattle.std.specs.Prelude.{◌≡◌, ◌-◌, min, length, take};
+ghost use Rattle.std.specs.Prelude.{◌≡◌, min, take};
 ghost use Rattle.replay.specs.Replies.{reply_in};
 
 use control::{Answer, Refused};
