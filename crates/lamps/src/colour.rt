@@ -4,7 +4,7 @@ ghost use Rattle.lamps.specs.Sets.{number_of, lamps_of};
 
 use crate::set::LampSet;
 
-/// A lamp of the head.
+/// A lamp of the head. (docs/RULES.md, "Lamp heads")
 #[derive(Clone, Copy, Debug, PartialEq, Eq)]
 pub enum Lamp {
     /// A vehicle waits.
@@ -28,16 +28,16 @@ impl Lamp {
     }
 }
 
-/// What the light shows or is ordered to show: dark, or one of its lamps.
+/// What the light shows or is ordered to show: dark, or one of its lamps. (docs/RULES.md, "Lamp heads")
 #[derive(Clone, Copy, Debug, PartialEq, Eq)]
 pub enum Colour {
-    /// No lamp is ordered.
+    /// No lamp.
     Dark,
     /// The red lamp.
     Red,
-    /// The amber lamp, lit.
+    /// The fixed amber lamp.
     FixedAmber,
-    /// The amber lamp, flashing.
+    /// The flashing amber lamp.
     FlashingAmber,
 }
 
