@@ -60,14 +60,14 @@ fn lit_set(word: u32) -> LampSet
     )
 }
 
-// The least current if the bit is set, else none.
+// The least current of a lit lamp if the lowest bit is set, else 0.
 fn current_for(bit: u32) -> u8
     ensures { result ≡ 20 * (bit % 2) }
 {
     if bit % 2 == 1 { LIT_FROM } else { 0 }
 }
 
-// A word with the least current for each lamp of the set.
+// A word with the least current of a lit lamp for each lamp of the set, which is given by its bits.
 fn word_of(lit: u32) -> u32
     ensures { result ≡ current_word lit }
 {
