@@ -11,14 +11,19 @@ use crate::set::LampSet;
 /// cut, and the set of lamps that each 32-bit lamp word stands for, as the sum of their numbers. Every word stands for
 /// a set, and every set has a word. No call changes what words stand for, and none fails.
 pub trait LampHead {
+    // The colour ordered.
     ghost colour: { Self → Colour };
 
+    // Whether the head is cut.
     ghost is_cut: { Self → Bool };
 
+    // The set that a word stands for, as the sum of its lamps' numbers.
     ghost shows: { Self → ℕ → ℕ };
 
+    // A word stands for a set of 0 to 7.
     ghost within: { (h : Self) (word : ℕ) → shows h word < 8 };
 
+    // Every set of 0 to 7 has a word of 32 bits.
     ghost every: { (h : Self) (lit : ℕ) → lit < 8 → (word : ℕ) × (word < 2 ^ 32) × (shows h word ≡ lit) };
 
     /// Orders a colour. A head that is cut stays dark.
