@@ -54,8 +54,8 @@ fn trip_with(lit: LampSet, ordered: Option<Lamp>, unwanted: Lamp) -> Trip
     }
 }
 
-/// The trip of a second in which this set of lamps (a sum of lamp numbers, 0 to 7) is lit and this colour is ordered;
-/// none if the set is that of the colour. (docs/RULES.md, "One second" and "Records")
+/// The trip of a second in which this set of lamps is lit and this colour is ordered; none if the set is that of the
+/// colour. (docs/RULES.md, "One second" and "Records")
 pub fn trip_of(lit: LampSet, colour: Colour) -> Option<Trip>
     ensures { result ≡ trip_of lit colour }
 {
