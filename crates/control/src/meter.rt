@@ -22,8 +22,8 @@ pub enum Light {
     Red,
 }
 
-/// What a metering station keeps: its light, the running reference cycle and the arrears. A reference cycle is the
-/// seconds from one vehicle to the next; none runs only before the first second of metering.
+/// What a metering station keeps: its light, the running reference cycle and the arrears. A reference cycle is a
+/// stretch of metering time in which one vehicle is due; none runs only before the first second of metering.
 /// (docs/RULES.md, "Metering")
 #[derive(Clone, Copy)]
 pub struct Meter {
