@@ -18,7 +18,8 @@ pub enum Mode {
     Central,
 }
 
-/// What command lines settle. Its default is that of a fresh station: local mode, not wanted, no centre's cycle.
+/// Mode, whether metering is wanted, and the centre's cycle. Its default is that of a fresh station: local mode, not
+/// wanted, no centre's cycle. (docs/RULES.md, "Command lines" and "One second")
 #[derive(Clone, Copy, Default)]
 pub struct Command {
     /// Whether calendar or command lines settle `wanted`.
