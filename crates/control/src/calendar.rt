@@ -12,7 +12,7 @@ fn in_range(range: MinuteRange, minute: u32) -> bool
 }
 
 /// Whether one of the ranges has the minute of the week (0 to 10,079): from ≤ minute < to. A range that reaches beyond
-/// minute 10,079 does not go on at minute 0. (docs/RULES.md, "One second")
+/// minute 10,080 does not go on at minute 0. (docs/RULES.md, "One second" and "Where rules left room")
 pub fn in_calendar(calendar: &[MinuteRange], minute: u32) -> bool
     ensures { result ≡ in_calendar calendar.now minute }
 {

@@ -6,6 +6,6 @@
 pub struct MinuteRange {
     /// First minute of the range; minutes of the week are 0 to 10,079.
     pub from: u32,
-    /// First minute after the range. A range beyond minute 10,080 does not go on at minute 0.
+    /// First minute after the range. A range that reaches beyond minute 10,080 does not go on at minute 0.
     pub to: u32,
 }
