@@ -10,15 +10,15 @@ use crate::strategy::Strategy;
 /// A strategy that stands over no other one (docs/RULES.md, "Strategies").
 #[derive(Debug, Drop)]
 pub enum BaseStrategy {
-    /// The flow follows the mainline's occupancy.
+    /// The flow follows the motorway's occupancy.
     Alinea(Alinea),
     /// A cycle for each hour of the day.
     Hourly(HourlyPlan),
 }
 
-/// A base strategy under as many step limiters as a program asks for, chosen as it runs: one type, so that a
-/// program has one station and not one for each strategy. It is a strategy itself, and moves by the rule of what
-/// was chosen.
+/// A base strategy under none, one or two step limiters, chosen as a program runs: one type, so that the program has
+/// one station and not one for each strategy. It is a strategy itself, and moves by the rule of what was chosen
+/// (docs/RULES.md, "Step limiter").
 #[derive(Debug, Drop)]
 pub enum ChosenStrategy {
     /// No step limiter.
