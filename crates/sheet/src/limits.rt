@@ -6,7 +6,7 @@ ghost use Rattle.sheet.specs.Causes.{cause_of, cause_of_limits, cause_of_pairs, 
 
 use crate::draft::{Cause, Draft};
 
-// The lowest and the highest value of each figure, in the order of their numbers. Pairs, since ranges are not `Copy`.
+// The lowest and the highest value of each figure, in the order of their numbers.
 const LIMITS: [(u32, u32); 22] = [
     (1, 9_999),
     (30, 300),
