@@ -1,4 +1,4 @@
-// What tables of rows are written with: a constant can call no function.
+// The readings and faults of which tables of rows are made.
 
 // A reading: vehicles seen, those of them sound, and busy milliseconds.
 macro_rules! lane {

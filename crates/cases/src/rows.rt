@@ -2,7 +2,7 @@
 use crate::tables::gives;
 use plan::{Base, HeadKind, Limits, Reader, Row, RowFault, StrategyRow, row_text};
 
-// A row of a plan, as it is read that is not the first.
+// What a row of a plan is read as, where it is not the first.
 pub(crate) fn read(raw: &[u8]) -> Result<Row, RowFault> {
     Reader::new().read(row_text(raw, false))
 }
