@@ -1,4 +1,4 @@
-// Cuts the ends off rows.
+// The text of a row without what stands around it, and the command line in a row.
 ghost use Rattle.std.specs.Prelude.{◌≡◌, ◌==◌};
 ghost use Rattle.std.specs.List.{position};
 ghost use Rattle.plan.specs.Text.{without_last, without_end, unpadded, without_bom, row_text, command_text};
