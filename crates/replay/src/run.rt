@@ -237,8 +237,7 @@ impl<S: Strategy, H: LampWords> Run<S, H> {
     }
 
     /// Opens a run on an accepted sheet, plays acts as `play` does, as many as have a place for their answer, and
-    /// looks.
-    /// Whatever the strategy and the head, the promises hold over exactly these acts with these answers
+    /// looks. Whatever the strategy and the head, the promises hold over exactly these acts with these answers
     /// (docs/RULES.md, "Promises").
     pub fn played_through(
         sheet: Sheet,
