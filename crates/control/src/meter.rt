@@ -12,6 +12,7 @@ use lamps::Colour;
 use sheet::Sheet;
 
 /// The light of metering. A window is window flash and then window amber: it lets one vehicle go.
+/// (docs/RULES.md, "Metering")
 #[derive(Clone, Copy)]
 pub enum Light {
     /// Window flash: flashing amber for JC seconds.

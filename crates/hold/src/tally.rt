@@ -5,7 +5,8 @@ ghost use Rattle.hold.specs.Rows.{Rows, agree, seen, tally_of};
 
 use crate::pair::Pair;
 
-/// How many pairs of rows agree and how many differ. Each count stops at 18,446,744,073,709,551,615.
+/// How many pairs of rows agree and how many differ. Each count stops at 18,446,744,073,709,551,615
+/// (docs/TRIAL.md, "Holding a recorded log").
 #[derive(Clone, Copy)]
 pub struct Tally {
     /// Pairs of rows with the same bytes.

@@ -16,7 +16,7 @@ const LIT_FROM: u8 = 20;
 #[derive(Clone, Copy, Debug)]
 pub struct CurrentCode;
 
-/// The head whose lamp words have the current of each lamp.
+/// The head whose lamp words have the current of each lamp (docs/RULES.md, "Lamp heads").
 pub type CurrentHead = CodedHead<CurrentCode>;
 
 // The current of a lamp in a word.

@@ -10,7 +10,7 @@ use crate::set::LampSet;
 #[derive(Clone, Copy, Debug)]
 pub struct RelayCode;
 
-/// The head whose lamp words have a bit for each lamp.
+/// The head whose lamp words have a bit for each lamp (docs/RULES.md, "Lamp heads").
 pub type RelayHead = CodedHead<RelayCode>;
 
 impl LampCode for RelayCode {

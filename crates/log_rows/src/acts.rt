@@ -16,7 +16,7 @@ pub struct LineTaken<'a>(pub &'a [u8]);
 #[derive(Clone, Copy)]
 pub struct LineRefused(pub Refusal);
 
-/// Writes the `reset` row of a breaker reset that was taken.
+/// Writes the `reset` row of a breaker reset that was taken (docs/TRIAL.md, "The log").
 #[derive(Clone, Copy)]
 pub struct ResetTaken;
 

@@ -10,6 +10,7 @@ use lamps::Colour;
 use records::{Phase, count_after};
 
 /// An observer of a run: it is told what each second showed and which acts were refused, and adds up the totals.
+/// (docs/RULES.md, "Succession", and docs/TRIAL.md, "The log")
 #[derive(Clone, Copy)]
 pub struct Observer {
     totals: Totals,

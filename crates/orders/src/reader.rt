@@ -55,6 +55,7 @@ pub fn read_order(line: &[u8]) -> Result<Order, OrderFault>
 }
 
 /// Does nothing when called. Its contract gives the laws of `read_order`, for every line, in the words of the lines.
+/// (docs/RULES.md, "Command lines")
 pub fn laws_hold()
     ensures { Laws }
 {}

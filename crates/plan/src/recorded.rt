@@ -23,7 +23,7 @@ pub enum RecordedRow {
     Other,
 }
 
-/// What a `second` row of a recorded log says of its second.
+/// What a `second` row of a recorded log says of its second (docs/TRIAL.md, "Judging a recorded log").
 #[derive(Clone, Copy, Debug, PartialEq, Eq)]
 pub struct RecordedSecond {
     /// The colour of the light.
@@ -79,7 +79,7 @@ fn read_named(name: &[u8], fields: &mut Fields<'_>) -> Result<RecordedRow, RowFa
 }
 
 /// What a row says, or the first field from the left that is missing or wrong in a `second`, `line` or `reset` row.
-/// `row` has no line end, as `without_end` cuts it.
+/// `row` has no line end, as `without_end` cuts it (docs/TRIAL.md, "Judging a recorded log").
 #[tactic(auto, unfolding(crate::specs::Recorded::recorded_of))]
 pub fn read_recorded(row: &[u8]) -> Result<RecordedRow, RowFault>
     ensures { result ≡ recorded_of row.now }

@@ -46,7 +46,7 @@ fn without_bom(text: &[u8]) -> &[u8]
 }
 
 /// The text of a row without its line end and its padding. `raw` is the row as it stands in the file; `first` says that
-/// it is the first row of the plan, where a byte order mark is passed over.
+/// it is the first row of the plan, where a byte order mark is passed over (docs/TRIAL.md, "Rows, fields, numbers").
 pub fn row_text(raw: &[u8], first: bool) -> &[u8]
     ensures { result.now ≡ row_text raw.now first }
 {
@@ -62,7 +62,7 @@ pub(crate) fn find(text: &[u8], mark: u8) -> Option<usize>
 }
 
 /// The command line in a `line` row: every byte after the first separator, further separators included; empty if there
-/// is none. `row` is the row as `row_text` cuts it.
+/// is none. `row` is the row as `row_text` cuts it (docs/TRIAL.md, "Kinds of rows").
 pub fn command_text(row: &[u8]) -> &[u8]
     ensures { result.now ≡ command_text row.now }
 {

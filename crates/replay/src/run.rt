@@ -21,7 +21,8 @@ use sheet::Sheet;
 use station::{Field, Station, View};
 use strategy::Strategy;
 
-/// A station that is driven through acts, and an observer beside it that keeps the totals of the run.
+/// A station that is driven through acts, and an observer beside it that keeps the totals of the run
+/// (docs/RULES.md, "Promises").
 #[derive(Drop)]
 pub struct Run<S, H> {
     station: Station<S, H>,

@@ -17,7 +17,7 @@ pub struct Setup {
     head: Option<HeadKind>,
 }
 
-/// Everything that the station of a plan is opened with.
+/// Everything that the station of a plan is opened with (docs/TRIAL.md, "Order of rows").
 #[derive(Debug, Drop)]
 pub struct Opening {
     /// The accepted sheet; opening a station uses it up.
@@ -64,7 +64,7 @@ impl Opening {
     }
 }
 
-/// The kinds of rows that stand once, before the first act.
+/// The kinds of rows that stand once, before the first act (docs/TRIAL.md, "Order of rows").
 #[derive(Clone, Copy, Debug, PartialEq, Eq)]
 pub enum Slot {
     /// The row of the 22 figures.

@@ -198,7 +198,7 @@ impl Cause {
     }
 }
 
-/// A refused draft, handed back with the cause.
+/// A refused draft, handed back with the cause. (docs/RULES.md, "Accepting a sheet")
 #[derive(Debug, Drop)]
 pub struct RefusedDraft {
     /// The first cause that applies.

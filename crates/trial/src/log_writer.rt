@@ -73,7 +73,7 @@ pub(crate) fn write_refused<W: Write>(out: &mut W, refusal: Refusal) -> io::Resu
     writeln!(out, "{}", SheetRefused(refusal))
 }
 
-/// Writes the log here, row by row (docs/TRIAL.md).
+/// Writes the log here, row by row (docs/TRIAL.md, "The log").
 #[derive(Drop)]
 pub(crate) struct LogWriter<W>(pub(crate) W);
 
