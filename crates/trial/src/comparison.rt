@@ -51,7 +51,7 @@ fn tallied<W: Write>(out: &mut W, tally: Tally, pair: Pair<'_>) -> Result<Tally,
 }
 
 impl<L: Read + Drop, W: Write + Drop> Comparison<L, W> {
-    /// The recorded log that is read from here.
+    /// A comparison with the recorded log that is read from here. Differences are written to `out`.
     pub(crate) fn new(heap: Global, recorded: L, out: W) -> Result<Comparison<L, W>, Stop> {
         Ok(Comparison {
             recorded: Lines::new(heap, recorded)?,
@@ -92,7 +92,7 @@ impl<L: Read + Drop, W: Write + Drop> Comparison<L, W> {
         Ok(())
     }
 
-    // What is left of the recorded log, and how many rows agree.
+    // Holds what is left of the recorded log, and tells how many rows agree and how many differ.
     fn end(&mut self) -> Result<(), Stop> {
         self.hold()?;
         self.hold_rest()?;

@@ -75,7 +75,8 @@ fn write_reset_due<W: Write>(out: &mut W, due: Result<(), Refused>) -> io::Resul
     }
 }
 
-/// Judging the recorded log that is read from here, writing what is found there.
+/// A recorded log that is being judged, from here on: the row that is due next, the rows of breaches, how many lines
+/// and resets were against the rules, and where all this is told.
 #[derive(Drop)]
 pub(crate) struct Judging<L, W> {
     recorded: Lines<L>,
@@ -86,7 +87,7 @@ pub(crate) struct Judging<L, W> {
 }
 
 impl<L: Read + Drop, W: Write + Drop> Judging<L, W> {
-    /// The recorded log that is read from here.
+    /// The recorded log that is read from here, with nothing judged yet. What is found is written to `out`.
     pub(crate) fn new(heap: Global, recorded: L, out: W) -> Result<Judging<L, W>, Stop> {
         Ok(Judging {
             recorded: Lines::new(heap, recorded)?,

@@ -69,7 +69,7 @@ impl<R: Read + Drop> Plan<R> {
         self.rows.is_fresh()
     }
 
-    // Refuses a row of a kind that stands before it.
+    // Refuses a row of a kind that the plan has had.
     fn expect(&self, setup: &Setup, slot: Slot) -> Result<(), Stop> {
         setup
             .expect(slot)
