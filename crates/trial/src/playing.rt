@@ -18,7 +18,7 @@ pub(crate) trait Player {
     /// There are no further acts.
     fn end(&mut self) -> Result<(), Stop>;
 
-    /// Lets be seen what was written so far, whatever comes.
+    /// Writes out what is still held back. It is called behind the last act, also after a fault.
     fn flush(&mut self) -> Result<(), Stop>;
 }
 

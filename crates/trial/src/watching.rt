@@ -19,7 +19,7 @@ pub(crate) trait Watch {
     /// The sheet of the plan is refused.
     fn refused(&mut self, refusal: Refusal) -> Result<(), Stop>;
 
-    /// Lets be seen what was written so far, whatever comes.
+    /// Writes out what is still held back. It is called behind the last act, also after a fault.
     fn flush(&mut self) -> Result<(), Stop>;
 }
 
