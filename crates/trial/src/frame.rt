@@ -1,15 +1,16 @@
 // What stands around the lines of a picture: its size, names, the time axis, and what the marks mean.
 use std::io::{self, Write};
 
-// The width of the time axis, and what stands left of it.
+// The width of the time axis.
 const WIDTH: u64 = 1_600;
 
+// The width of what stands left of it.
 const LEFT: u64 = 90;
 
 // The seconds between two marks of the time axis: the first of these that gives at most 24.
 const STEPS: [u64; 9] = [10, 60, 300, 600, 1_800, 3_600, 14_400, 43_200, 86_400];
 
-// The names of what is drawn, each with its place.
+// The names of what is drawn, each with its height in the part that is drawn in seconds.
 const NAMES: [(&str, u32); 6] = [
     ("colour", 30),
     ("trip, reset", 71),
@@ -31,7 +32,7 @@ const MEANINGS: [(&str, &str); 8] = [
     ("#888", "period closed"),
 ];
 
-// The seconds between two marks for a run of so many seconds.
+// The seconds between two marks for a run of so many seconds; a week where no other step will do.
 fn step_for(seconds: u64) -> u64 {
     for step in STEPS {
         if seconds / step < 25 {

@@ -60,7 +60,7 @@ impl Strip {
     }
 }
 
-/// A line: the place of its zero, the height of its highest level, which stands for so much, the level now, and the
+/// A line: the place of its zero, its height at the level `most`, above which it does not rise, the level now, and the
 /// path before that.
 #[derive(Drop)]
 pub(crate) struct Line {
