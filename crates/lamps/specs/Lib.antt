@@ -1,3 +1,4 @@
+-- Lamps and their sets, and the meanings of lamp heads.
 pub mod Sets
 pub mod Orders
 pub mod Words

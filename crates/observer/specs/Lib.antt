@@ -1,3 +1,4 @@
+-- The totals of a run.
 pub mod Steps
 pub mod Totals
 pub use Rattle.runlaw.specs.Log

@@ -1,3 +1,4 @@
+-- What the rows of a plan and of a recorded log say.
 pub mod Decimal
 pub mod Text
 pub mod Fields

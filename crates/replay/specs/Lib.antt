@@ -1,3 +1,4 @@
+-- What a plan asks for, and what it means that its acts were played.
 pub mod Setup
 pub mod Replies
 pub mod Acts

@@ -1,2 +1,3 @@
+-- Texts laid from the back, and the replies to status readings.
 pub mod Laying
 pub mod Replies

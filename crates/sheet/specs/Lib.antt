@@ -1,3 +1,4 @@
+-- The limits of figures, and what accepting a draft gives.
 pub mod Limits
 pub mod Draft
 pub mod Causes

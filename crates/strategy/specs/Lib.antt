@@ -1,3 +1,4 @@
+-- The rules of the strategies, and the meanings that their contracts give them.
 pub mod Drawn
 pub mod Alinea
 pub mod Hourly
