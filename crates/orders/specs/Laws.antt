@@ -29,7 +29,7 @@ Spells Off ts = ts ≡ texts_of (codes "PM, EXTNORM")
 Spells Status ts = ts ≡ texts_of (codes "P")
 Spells Cycles ts = ts ≡ texts_of (codes "PE")
 
--- is the last byte of a word?
+-- whether the last byte is of a word
 abbrev pub word_ends : List ℕ → Bool
 word_ends [] = false
 word_ends (b ∷ []) = in_word b

@@ -45,12 +45,12 @@ lines =
     form (written "PE") (orders Cycles) ∷
     []
 
--- may a token with this text stand here?
+-- whether a token with this text may stand here
 abbrev pub takes : Slot → List ℕ → Bool
 takes (fixed w) text = bytes_eq w text
 takes value text = all_digits text
 
--- are the tokens those of the line, all of them and no more?
+-- whether the tokens are those of the line, all of them and no more
 abbrev pub spelt : List Slot → List Part → Bool
 spelt [] [] = true
 spelt [] (p ∷ ps) = false

@@ -69,7 +69,7 @@ abbrev pub first_place : List Part → (length : ℕ) → ℕ
 first_place [] length = length
 first_place (p ∷ ps) length = p.place
 
--- does a token with this text come first?
+-- whether a token with this text comes first
 abbrev pub comes_first : List ℕ → List Part → Bool
 comes_first w [] = false
 comes_first w (p ∷ ps) = bytes_eq w p.text

@@ -26,7 +26,7 @@ pub record Part : Type 0 where
 abbrev pub part : List ℕ → ℕ → Part
 part t p = record { text = t; place = p }
 
--- does a word begin here?
+-- whether a word begins here
 abbrev pub word_here : List ℕ → Bool
 word_here [] = false
 word_here (b ∷ bs) = in_word b

@@ -2,7 +2,7 @@
 use Rattle.std.specs.Prelude.{ℕ, ◌+◌, ◌-◌, Bool, cond, not, ◌&&◌, List, length, take, drop, ◌==◌, nat_eq, nat_le, slice_index}
 use Rattle.std.specs.List.{prefix_len, suffix_len}
 
--- is b the last byte?
+-- whether b is the last byte
 abbrev pub ends_with : ℕ → List ℕ → Bool
 ends_with b xs = nat_le 1 (length xs) && slice_index xs (length xs - 1) == b
 
@@ -22,7 +22,7 @@ without_end xs = cond (ends_with 10 xs) (without_last 13 (front xs)) xs
 abbrev pub unpadded : List ℕ → List ℕ
 unpadded xs = take (length xs - suffix_len (λ b. nat_eq b 59) xs) xs
 
--- does the text begin with the byte order mark EF BB BF?
+-- whether the text begins with the byte order mark EF BB BF
 abbrev pub has_bom : List ℕ → Bool
 has_bom xs = slice_index xs 0 == 239 && (slice_index xs 1 == 187 && slice_index xs 2 == 191)
 

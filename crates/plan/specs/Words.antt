@@ -12,7 +12,7 @@ use Rattle.plan.specs.declared.words.StrategyWord.{StrategyWord}
 use Rattle.plan.specs.declared.words.StrategyWord.TheVariants.{Limiter, Of}
 use Rattle.plan.specs.Decimal.{decimal}
 
--- is this the text?
+-- whether this is the text
 abbrev pub reads : List ℕ → List ℕ → Bool
 reads t w = bytes_eq w t
 
