@@ -1,5 +1,5 @@
 -- Worked figures of the rules.
-use Rattle.std.specs.Prelude.{◌≡◌, ℕ, true, false, List, [], ◌∷◌, Some, None, Ok, Err, codes, Option, Result}
+use Rattle.std.specs.Prelude.{◌≡◌, ℕ, true, false, List, [], ◌∷◌, ◌++◌, replicate, Some, None, Ok, Err, codes, Option, Result}
 use Rattle.sheet.specs.declared.sheet.Sheet.{Sheet}
 use Rattle.strategy.specs.declared.alinea.Alinea.{Alinea}
 use Rattle.strategy.specs.declared.measure.Measure.{Measure}
@@ -7,7 +7,7 @@ use Rattle.strategy.specs.declared.limiter.Limiter.{Limiter}
 use Rattle.strategy.specs.Meanings.{alinea_meaning, limited_meaning}
 use Rattle.loops.specs.declared.lane.LaneTally.{LaneTally}
 use Rattle.loops.specs.declared.figures.LoopFigures.{LoopFigures}
-use Rattle.loops.specs.Rules.{is_valid, interval_occupancy, measure_of}
+use Rattle.loops.specs.Rules.{Second, is_valid, interval_occupancy, measure_of, period_measure}
 use Rattle.orders.specs.Worked.{WorkedLines}
 use Rattle.orders.specs.declared.fault.Refusal.{Refusal}
 use Rattle.control.specs.declared.answer.Refused.{Refused}
@@ -45,6 +45,15 @@ one_unsound =
     (busy_interval 3 2199 ∷ busy_interval 4 3108 ∷ []) ∷
     (busy_interval 2 1019 ∷ record { seen = 5; sound = 4; busy_ms = 2029; in_range = true } ∷ []) ∷ []
 
+-- a second on two lanes, each with its vehicles, all sound, and its busy milliseconds
+abbrev pub second_with : (seen busy seen' busy' : ℕ) → Second
+second_with seen busy seen' busy' =
+    record { seen = seen; sound = seen; busy_ms = busy } ∷ record { seen = seen'; sound = seen'; busy_ms = busy' } ∷ []
+
+-- two intervals of 10 seconds, of which all are alike
+abbrev pub twenty_seconds : List Second
+twenty_seconds = replicate 10 (second_with 1 219 0 101) ++ replicate 10 (second_with 1 310 1 202)
+
 -- a fresh station after the line that sets central mode
 abbrev pub in_central_mode : Sheet → Alinea → (ℕ → ℕ) → Model Alinea
 in_central_mode f a shows = after_line f (fresh a shows) (codes "PA, AM=PIL, AF=PF/0") 80
@@ -74,6 +83,10 @@ pub record WorkedFigures : Type 0 where
   -- lane 1 has occupancies of 219 and 310, and 264 over both; lane 2 has 101 and 202, and 151; the period has the mean of these,
   -- 207, and the 12 vehicles of both lanes
   pub measure : (f : LoopFigures) → f.interval_seconds ≡ 10 → f.availability ≡ 80 → f.overcount ≡ 600 → measure_of f two_lanes ≡ Some (occupied 12 207)
+  -- the same occupancies from the readings of two intervals: 20 vehicles on lane 1 and 10 on lane 2
+  pub of_readings :
+      (f : LoopFigures) → f.lanes ≡ 2 → f.interval_seconds ≡ 10 → f.period_intervals ≡ 2 → f.availability ≡ 80 → f.overcount ≡ 600 →
+      period_measure f twenty_seconds ≡ Some (occupied 30 207)
   -- one interval of one lane that is not valid leaves the period without a measure
   pub no_measure : (f : LoopFigures) → f.interval_seconds ≡ 10 → f.availability ≡ 80 → f.overcount ≡ 600 → measure_of f one_unsound ≡ None
   -- the line of a cycle of 120 is read, that of 121 is refused with 7 at place 15, and the off line is read

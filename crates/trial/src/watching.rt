@@ -67,12 +67,14 @@ pub(crate) fn play_watched<R: Read + Drop, W: Watch + Drop>(
         }
         Ok(None) if needed && plan.is_fresh() => Err(Stop::Usage),
         Ok(None) => {
-            watch.closed(Totals::default())?;
-            watch.flush()
+            let closed = watch.closed(Totals::default());
+            watch.flush()?;
+            closed
         }
         Err(Stop::SheetRefused(refusal)) => {
-            watch.refused(refusal)?;
+            let refused = watch.refused(refusal);
             watch.flush()?;
+            refused?;
             Err(Stop::SheetRefused(refusal))
         }
         Err(stop) => Err(stop),

@@ -5,15 +5,15 @@ use Rattle.strategy.specs.declared.alinea.Alinea.{Alinea}
 use Rattle.strategy.specs.declared.measure.Measure.{Measure}
 use Rattle.loops.specs.declared.figures.LoopFigures.{LoopFigures}
 use Rattle.loops.specs.declared.lane.LaneTally.{LaneTally}
-use Rattle.loops.specs.Lists.{mean_of}
-use Rattle.loops.specs.Rules.{is_valid, is_plausible, lane_flow, lane_occupancy, measure_of}
+use Rattle.loops.specs.Lists.{listed, mean_of}
+use Rattle.loops.specs.Rules.{Second, tally_of, is_valid, is_plausible, lane_flow, lane_occupancy, measure_of, seconds_of, period_measure}
 use Rattle.strategy.specs.Alinea.{flow_after, cycle_of_flow}
 use Rattle.strategy.specs.Limiter.{own_after}
 use Rattle.strategy.specs.Meanings.{alinea_meaning}
 use Rattle.orders.specs.Lines.{lines}
 use Rattle.orders.proofs.WorkedLines.{worked_lines}
 use Rattle.orders.specs.Tokens.{tokens_from}
-use Rattle.runlaw.specs.Worked.{occupied, Steers, two_lanes, one_unsound}
+use Rattle.runlaw.specs.Worked.{occupied, Steers, two_lanes, one_unsound, twenty_seconds}
 use Rattle.runlaw.proofs.laws.worked_figures_hold.Goals as goal
 
 -- the flow of such an ALINEA after a close
@@ -39,6 +39,25 @@ measured_by lanes f i a o =
     ap (λ n. measured n f.availability f.overcount lanes) i ∙
     ap (λ n. measured 10 n f.overcount lanes) a ∙ ap (λ n. measured 10 80 n lanes) o
 
+-- the measure of some seconds by the five figures that it goes by
+abbrev intervals_by : (lanes seconds intervals : ℕ) → List Second → ℕ → List LaneTally
+intervals_by l i n ss k = listed (λ j. tally_of l k (seconds_of i j ss)) n
+
+abbrev measured_of : (lanes seconds intervals availability overcount : ℕ) → List Second → Option Measure
+measured_of l i n a o ss = measured i a o (listed (intervals_by l i n ss) l)
+
+of_readings_by : (ss : List Second) (f : LoopFigures) → f.lanes ≡ 2 → f.interval_seconds ≡ 10 → f.period_intervals ≡ 2 → f.availability ≡ 80 → f.overcount ≡ 600 → period_measure f ss ≡ measured_of 2 10 2 80 600 ss
+unfolding period_measure measure_of
+of_readings_by ss f l i n a o =
+    ap (λ x. measured_of x f.interval_seconds f.period_intervals f.availability f.overcount ss) l ∙
+    ap (λ x. measured_of 2 x f.period_intervals f.availability f.overcount ss) i ∙
+    ap (λ x. measured_of 2 10 x f.availability f.overcount ss) n ∙
+    ap (λ x. measured_of 2 10 2 x f.overcount ss) a ∙ ap (λ x. measured_of 2 10 2 80 x ss) o
+
+of_readings_lem : measured_of 2 10 2 80 600 twenty_seconds ≡ Some (occupied 30 207)
+unfolding tally_of
+of_readings_lem = refl
+
 pub returns : goal.returns
 unfolding lines tokens_from
 returns c =
@@ -56,6 +75,7 @@ returns c =
       sound_5_of_5 = refl;
       occupancy = refl;
       measure = measured_by two_lanes;
+      of_readings = λ f l i n a o. of_readings_by twenty_seconds f l i n a o ∙ of_readings_lem;
       no_measure = measured_by one_unsound;
       lines = worked_lines;
       longest_cycle = λ f a shows. refl;
