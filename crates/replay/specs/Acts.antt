@@ -44,8 +44,13 @@ abbrev pub act_with : Act → Outcome → Colour → history.Act
 act_with (Second s) (outcome.Second o) c = history.Second (given_in s o.word) o.answer c
 act_with (Line l) (outcome.Line r) c = history.Line l.text.now (buffer_for l) (buffer_after (replied_in r) (buffer_for l)) (replied_in r) c
 act_with Reset (outcome.Reset r) c = history.Reset r c
--- outcomes of another kind than their act do not come
-act_with x o c = history.Reset (Err NotTripped) c
+-- an outcome of another kind than its act does not come: see `PlayedAs`
+act_with (Second s) (outcome.Line r) c = history.Reset (Err NotTripped) c
+act_with (Second s) (outcome.Reset r) c = history.Reset (Err NotTripped) c
+act_with (Line l) (outcome.Second o) c = history.Reset (Err NotTripped) c
+act_with (Line l) (outcome.Reset r) c = history.Reset (Err NotTripped) c
+act_with Reset (outcome.Second o) c = history.Reset (Err NotTripped) c
+act_with Reset (outcome.Line r) c = history.Reset (Err NotTripped) c
 
 abbrev pub act_of : Act → Answered → history.Act
 act_of x a = act_with x a.outcome a.view.colour

@@ -47,7 +47,12 @@ module _ {S H : Type 0} (st : StrategyMeaning S) (hd : HeadMeaning H) (before : 
   PlayedAs (Second s) (outcome.Second o) behind = SecondPlayed s behind o
   PlayedAs (Line l) (outcome.Line r) behind = LinePlayed l.text.now (buffer_for l) behind (buffer_after (replied_in r) (buffer_for l)) r
   PlayedAs Reset (outcome.Reset r) behind = ResetPlayed behind r
-  PlayedAs x o behind = ⊥
+  PlayedAs (Second s) (outcome.Line r) behind = ⊥
+  PlayedAs (Second s) (outcome.Reset r) behind = ⊥
+  PlayedAs (Line l) (outcome.Second o) behind = ⊥
+  PlayedAs (Line l) (outcome.Reset r) behind = ⊥
+  PlayedAs Reset (outcome.Second o) behind = ⊥
+  PlayedAs Reset (outcome.Line r) behind = ⊥
 
 module _ {S H : Type 0} (st : StrategyMeaning S) (hd : HeadMeaning H) where
   -- the run is one of this history: its station was opened with the strategy's state s and lived it, and its observer counted what the log of it has

@@ -64,9 +64,9 @@ fn oldest<T: Copy>(ring: &Ring<'_, T>, list: &mut [T]) -> Option<T>
     list[..kept].first().copied()
 }
 
-/// Plays a second, and returns its answer with the records that it put. The rings have one place each, since a second
-/// puts at most one record of a kind.
-pub(crate) fn do_second<S: Strategy, H: LampWords>(
+// Plays a second, and returns its answer with the records that it put. The rings have one place each, since a second
+// puts at most one record of a kind.
+fn do_second<S: Strategy, H: LampWords>(
     station: &mut Station<S, H>,
     second: SecondAct<'_>,
 ) -> SecondOutcome
@@ -111,8 +111,8 @@ fn say<S: Strategy, H: LampHead>(
     Ok(Reply::of(buffer, bytes))
 }
 
-/// Plays a command line, with an answer buffer of as many bytes as the plan asks for, at most 1,000.
-pub(crate) fn do_line<S: Strategy, H: LampHead>(
+// Plays a command line, with an answer buffer of as many bytes as the plan asks for, at most 1,000.
+fn do_line<S: Strategy, H: LampHead>(
     station: &mut Station<S, H>,
     line: LineAct<'_>,
 ) -> Result<Reply, Refused>
@@ -238,8 +238,8 @@ impl<S: Strategy, H: LampWords> Run<S, H> {
     }
 
     /// Opens a run on an accepted sheet, plays acts as `play` does, as many as have a place for their answer, and
-    /// looks. Whatever the strategy and the head, the promises hold over exactly these acts with these answers
-    /// (docs/RULES.md, "Promises").
+    /// looks. Whatever the strategy, and whatever the head that gives lamp words, the promises hold over exactly these
+    /// acts with these answers (docs/RULES.md, "Promises").
     pub fn played_through(
         sheet: Sheet,
         strategy: S,

@@ -1,5 +1,6 @@
 // A recorded log, judged by the run law: the plan tells what each act was given, the log what it answered.
 use crate::lines::{Lines, turns};
+use crate::log_writer::write_reset;
 use crate::playing::{Plan, Player, Start};
 use crate::stop::Stop;
 use control::Refused;
@@ -16,7 +17,7 @@ const MOST_TOLD: u64 = 10;
 
 // The rows at which the parts of the law were first broken.
 #[derive(Clone, Copy, Default)]
-struct Rows {
+struct BreachRows {
     succession: Option<u64>,
     darkness: Option<u64>,
     openings: Option<u64>,
@@ -28,10 +29,10 @@ fn row_of(told: Option<u64>, breach: Option<u32>, row: u64) -> Option<u64> {
     told.or(breach.map(|_| row))
 }
 
-impl Rows {
+impl BreachRows {
     // The rows with the breaches of this verdict, which was given after this row.
-    fn with(self, verdict: Verdict, row: u64) -> Rows {
-        Rows {
+    fn with(self, verdict: Verdict, row: u64) -> BreachRows {
+        BreachRows {
             succession: row_of(self.succession, verdict.succession, row),
             darkness: row_of(self.darkness, verdict.darkness, row),
             openings: row_of(self.openings, verdict.openings, row),
@@ -67,21 +68,13 @@ fn write_line_due<W: Write>(
     }
 }
 
-// What a breaker reset is due to answer, as a row.
-fn write_reset_due<W: Write>(out: &mut W, due: Result<(), Refused>) -> io::Result<()> {
-    match due {
-        Ok(()) => writeln!(out, "{ResetTaken}"),
-        Err(refused) => writeln!(out, "{}", ResetRefused(refused.refusal())),
-    }
-}
-
 /// A recorded log that is being judged, from here on: the row that is due next, the rows of breaches, how many lines
 /// and resets were against the rules, and where all this is told.
 #[derive(Drop)]
 pub(crate) struct Judging<L, W> {
     recorded: Lines<L>,
     due: Vec<u8>,
-    rows: Rows,
+    rows: BreachRows,
     against: u64,
     out: W,
 }
@@ -92,7 +85,7 @@ impl<L: Read + Drop, W: Write + Drop> Judging<L, W> {
         Ok(Judging {
             recorded: Lines::new(heap, recorded)?,
             due: Vec::new(heap),
-            rows: Rows::default(),
+            rows: BreachRows::default(),
             against: 0,
             out,
         })
@@ -235,7 +228,7 @@ impl<L: Read + Drop, W: Write + Drop> Judged<L, W> {
     // A breaker reset.
     fn reset(&mut self) -> Result<(), Stop> {
         let taken = self.judging.next_reset()?;
-        write_reset_due(&mut self.judging.due, self.judge.due_reset())?;
+        write_reset(&mut self.judging.due, &self.judge.due_reset())?;
         self.judging.hold_due()?;
         self.judge.reset(taken);
         Ok(())

@@ -46,8 +46,8 @@ fn write_line<W: Write>(out: &mut W, answer: &Result<Reply, Refused>) -> io::Res
     }
 }
 
-// The row of a breaker reset.
-fn write_reset<W: Write>(out: &mut W, answer: &Result<(), Refused>) -> io::Result<()> {
+/// The row of a breaker reset.
+pub(crate) fn write_reset<W: Write>(out: &mut W, answer: &Result<(), Refused>) -> io::Result<()> {
     match answer {
         Ok(()) => writeln!(out, "{ResetTaken}"),
         Err(refused) => writeln!(out, "{}", ResetRefused(refused.refusal())),
