@@ -82,11 +82,20 @@ pub(crate) fn is_known(byte: u8) -> bool
     in_token(byte) || byte == b' '
 }
 
+// The bytes of a line from this place on; none past its end.
+fn bytes_from(line: &[u8], place: usize) -> &[u8]
+    ensures { result.now ≡ drop place line.now }
+{
+    &line[place.min(line.len())..]
+}
+
 /// How many bytes from this place on stand before the next token; none if no token follows.
 pub(crate) fn bytes_before(line: &[u8], from: usize) -> Option<usize>
     ensures { result ≡ position in_token (drop from line.now) }
 {
-    line.iter().skip(from).position(|byte| in_token(*byte))
+    bytes_from(line, from)
+        .iter()
+        .position(|byte| in_token(*byte))
 }
 
 // How many bytes of a word the text begins with.
