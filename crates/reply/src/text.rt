@@ -1,22 +1,15 @@
 // The replies to the status readings, as text at the front of a buffer.
-ghost use Rattle.std.specs.Prelude.{◌≡◌, ◌≤◌, ◌++◌, length, IfOk};
-ghost use Rattle.std.specs.Fmt.InlineText.{inline_text};
+ghost use Rattle.std.specs.Prelude.{◌≡◌, ◌+◌, ◌≤◌, ◌++◌, length, drop, IfOk, if◌then◌else◌, Ok, Err, decimal, nat_lt};
 ghost use Rattle.reply.specs.Replies.{status_text, cycles_text, fitted, written};
 
-use itoa::Buffer;
-use std::fmt::InlineText;
+use crate::digits::digit_count;
+use itoa::write_digits;
 
 // What stands before the length of the running reference cycle.
-const CYCLE_NAME: &str = "AM=F.1 CY=";
+const CYCLE_NAME: &[u8] = b"AM=F.1 CY=";
 
 // What stands before the window flash.
-const WINDOW_FLASH_NAME: &str = " JC=";
-
-// The most bytes of a name or a figure.
-const LONGEST: usize = 10;
-
-// Room for two names and two figures, and one byte more, since a text that may fill all bytes may be cut.
-const ROOM: usize = 4 * LONGEST + 1;
+const WINDOW_FLASH_NAME: &[u8] = b" JC=";
 
 /// A buffer is too short for a reply, and nothing was written: refusal 11. (docs/RULES.md, "Refusals")
 #[derive(Clone, Copy, Debug, PartialEq, Eq)]
@@ -25,18 +18,26 @@ pub struct NoRoom {
     pub needed: usize,
 }
 
+// The number of bytes of a reply if the room holds them.
+fn fit(room: usize, needed: usize) -> Result<usize, NoRoom>
+    ensures { result ≡ (if nat_lt room needed then Err (record { needed = needed }) else Ok needed) }
+{
+    if room < needed {
+        Err(NoRoom { needed })
+    } else {
+        Ok(needed)
+    }
+}
+
 // Writes a reply to the front of the buffer, and returns the number of its bytes, or the number needed if it does not
 // fit; nothing is written then.
 fn write_reply(text: &[u8], buffer: &mut [u8]) -> Result<usize, NoRoom>
     ensures result { result ≡ fitted (length buffer.old) text.now }
     ensures bytes { buffer.new ≡ written text.now buffer.old }
 {
-    let needed = text.len();
-    if buffer.len() < needed {
-        return Err(NoRoom { needed });
-    }
-    buffer[..needed].copy_from_slice(text);
-    Ok(needed)
+    let bytes = fit(buffer.len(), text.len())?;
+    buffer[..bytes].copy_from_slice(text);
+    Ok(bytes)
 }
 
 /// Writes the answer to line `P`, this one letter, to the front of the buffer, and returns the number of bytes written,
@@ -49,24 +50,19 @@ pub fn status_reply(letter: u8, buffer: &mut [u8]) -> Result<usize, NoRoom>
     write_reply(&[letter], buffer)
 }
 
-// The text with a name or a figure after it.
-fn with_part(text: InlineText<{ ROOM }>, part: &str) -> InlineText<{ ROOM }>
-    requires short { length part.now ≤ 10 }
-    requires room { length (inline_text text) ≤ 30 }
-    ensures { inline_text result ≡ inline_text text ++ part.now }
+// Writes a name and a figure after it, as in ` JC=4`, just before a place, and returns the place of the name. Inlined,
+// the copy of a name is one of a known length.
+#[inline(always)]
+fn write_field(buffer: &mut [u8], end: usize, name: &[u8], figure: u32) -> usize
+    requires room { length name.now + length (decimal figure) ≤ end }
+    requires within { end ≤ length buffer.old }
+    ensures place { result + (length name.now + length (decimal figure)) ≡ end }
+    ensures tail { drop result buffer.new ≡ name.now ++ (decimal figure ++ drop end buffer.old) }
 {
-    text.and_str(part, LONGEST)
-}
-
-// The answer to line `PE` as a text. Its parts are appended, since `write!` would return an error that cannot come.
-fn cycles_text(cycle: u32, window_flash: u32) -> InlineText<{ ROOM }>
-    ensures text { inline_text result ≡ cycles_text cycle window_flash }
-    ensures few { length (inline_text result) ≤ 34 }
-{
-    let text = with_part(InlineText::new(), CYCLE_NAME);
-    let text = with_part(text, Buffer::new().format(cycle));
-    let text = with_part(text, WINDOW_FLASH_NAME);
-    with_part(text, Buffer::new().format(window_flash))
+    let digits = write_digits(u64::from(figure), buffer, end);
+    let place = digits - name.len();
+    buffer[place..digits].copy_from_slice(name);
+    place
 }
 
 /// Writes the answer to line `PE`, as in `AM=F.1 CY=60 JC=4`, to the front of the buffer, and returns the number of
@@ -77,5 +73,12 @@ pub fn cycles_reply(cycle: u32, window_flash: u32, buffer: &mut [u8]) -> Result<
     ensures bytes { buffer.new ≡ written (cycles_text cycle window_flash) buffer.old }
     ensures few { IfOk result (λ n. n ≤ 34) }
 {
-    write_reply(cycles_text(cycle, window_flash).as_str().as_bytes(), buffer)
+    let needed = CYCLE_NAME.len()
+        + digit_count(cycle)
+        + WINDOW_FLASH_NAME.len()
+        + digit_count(window_flash);
+    let bytes = fit(buffer.len(), needed)?;
+    let place = write_field(buffer, bytes, WINDOW_FLASH_NAME, window_flash);
+    write_field(buffer, place, CYCLE_NAME, cycle);
+    Ok(bytes)
 }
